@@ -1,0 +1,4 @@
+// Entries kept in the order of a ranking.
+mod ranking;
+
+pub use ranking::Ranking;
