@@ -1,8 +1,8 @@
 // What the whole engine speaks of: sides, kinds, orders, their priority, and the limits.
+pub mod limits;
 mod order;
 mod priority;
 
-pub mod limits;
 pub use order::Kind;
 pub use order::KindDebug;
 pub use order::KindPartialEq;

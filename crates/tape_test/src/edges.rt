@@ -67,13 +67,24 @@ fn longest_tape(rt: LibcRuntime) -> Result<(), Fail> {
     check(tape_from(most.as_slice(), 0)?.len() == 65_535)?;
     check(tape_from(most.as_slice(), 65_534)?.len() == 1)?;
     check(tape_from(most.as_slice(), 65_535)?.is_empty())?;
-    check(matches!(tape_from(most.as_slice(), 65_536), Err(TapeFault::OutOfBounds)))?;
+    check(matches!(
+        tape_from(most.as_slice(), 65_536),
+        Err(TapeFault::OutOfBounds)
+    ))?;
     let over = vec![in rt.alloc(); 0x58u8; 65_536]?;
     check(matches!(tape_from(over.as_slice(), 0), Err(TapeFault::OutOfBounds)))?;
-    check(matches!(tape_from(over.as_slice(), 65_536), Err(TapeFault::OutOfBounds)))?;
+    check(matches!(
+        tape_from(over.as_slice(), 65_536),
+        Err(TapeFault::OutOfBounds)
+    ))?;
     let mut reader = Reader::new(most.as_slice());
     for _ in 0..13_107 {
-        check(matches!(reader.next(), Ok(Some(Command::Withdraw { number: 0x5858_5858 }))))?;
+        check(matches!(
+            reader.next(),
+            Ok(Some(Command::Withdraw {
+                number: 0x5858_5858
+            }))
+        ))?;
     }
     check(matches!(reader.next(), Ok(None)))?;
     check(reader.place() == 65_535)
@@ -86,7 +97,14 @@ fn reader_stays_at_a_fault() -> Result<(), Fail> {
     check(reader.just_read().is_empty())?;
     check_eq(reader.next()?, Some(Command::Withdraw { number: 7 }))?;
     check_eq(reader.just_read(), &tape[0..5])?;
-    check_eq(reader.next()?, Some(Command::Amend { number: 1, price: 2, quantity: 3 }))?;
+    check_eq(
+        reader.next()?,
+        Some(Command::Amend {
+            number: 1,
+            price: 2,
+            quantity: 3,
+        }),
+    )?;
     check_eq(reader.just_read(), &tape[5..18])?;
     for _ in 0..2 {
         check(matches!(reader.next(), Err(TapeFault::UnknownCommand)))?;

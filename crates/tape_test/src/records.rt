@@ -15,13 +15,19 @@ use tape::read;
 use tape::write;
 
 /// The records of the table below.
-pub const RECORDS: u8 = 8;
+pub(crate) const RECORDS: u8 = 8;
 
 /// A record, with the least and the greatest numbers among them.
-pub fn record(i: u8) -> Command<'static> {
+pub(crate) fn record(i: u8) -> Command<'static> {
     match i {
-        0 => Command::Start { prior: 107_000, last: 0 },
-        1 => Command::Start { prior: 0, last: u32::MAX },
+        0 => Command::Start {
+            prior: 107_000,
+            last: 0,
+        },
+        1 => Command::Start {
+            prior: 0,
+            last: u32::MAX,
+        },
         2 => Command::Enter {
             side: Side::Buy,
             kind: Kind::Limit,
@@ -38,13 +44,21 @@ pub fn record(i: u8) -> Command<'static> {
         },
         4 => Command::Withdraw { number: 1 },
         5 => Command::Withdraw { number: u32::MAX },
-        6 => Command::Amend { number: 2, price: 109_000, quantity: 80 },
-        _ => Command::Amend { number: u32::MAX, price: u32::MAX, quantity: 0 },
+        6 => Command::Amend {
+            number: 2,
+            price: 109_000,
+            quantity: 80,
+        },
+        _ => Command::Amend {
+            number: u32::MAX,
+            price: u32::MAX,
+            quantity: 0,
+        },
     }
 }
 
 /// The same record's bytes.
-pub fn bytes(i: u8) -> &'static [u8] {
+pub(crate) fn bytes(i: u8) -> &'static [u8] {
     match i {
         0 => b"\x53\x00\x01\xA1\xF8\x00\x00\x00\x00",
         1 => b"\x53\x00\x00\x00\x00\xFF\xFF\xFF\xFF",
@@ -90,7 +104,10 @@ fn needs_the_whole_output() -> Result<(), Fail> {
         let mut out = [0xEEu8; 19];
         let width = bytes(i).len();
         check(0 < width && width <= 19)?;
-        check(matches!(write(&mut out[0..width - 1], &record(i)), Err(WriteFault::ShortOutput)))?;
+        check(matches!(
+            write(&mut out[0..width - 1], &record(i)),
+            Err(WriteFault::ShortOutput)
+        ))?;
         for byte in &out {
             check(*byte == 0xEE)?;
         }
@@ -102,13 +119,22 @@ fn needs_the_whole_output() -> Result<(), Fail> {
 // An account that is not eight bytes is refused first, and nothing is written.
 fn refuses_account(account: &[u8]) -> Result<(), Fail> {
     let (side, kind) = (Side::Buy, Kind::Limit);
-    let command = Command::Enter { side, kind, price: 1, quantity: 1, account };
+    let command = Command::Enter {
+        side,
+        kind,
+        price: 1,
+        quantity: 1,
+        account,
+    };
     let mut out = [0xEEu8; 19];
     check(matches!(write(&mut out, &command), Err(WriteFault::AccountLength)))?;
     for byte in &out {
         check(*byte == 0xEE)?;
     }
-    check(matches!(write(&mut out[0..0], &command), Err(WriteFault::AccountLength)))
+    check(matches!(
+        write(&mut out[0..0], &command),
+        Err(WriteFault::AccountLength)
+    ))
 }
 
 #[test]

@@ -1,0 +1,9 @@
+pub mod Ranks
+pub mod Places
+pub mod Numbers
+pub mod Keeps
+pub mod Spares
+pub mod Lines
+pub mod Tops
+pub mod Walks
+pub mod PriorityLists

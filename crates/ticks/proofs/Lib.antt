@@ -1,0 +1,10 @@
+pub mod Admits
+pub mod AnswersHold
+pub mod Appends
+pub mod AtIndex
+pub mod FlatHolds
+pub mod FlatPlaces
+pub mod Progress
+pub mod RowsHold
+pub mod Spans
+pub mod Surveys

@@ -1,0 +1,13 @@
+pub mod BandedRules
+pub mod Causes
+pub mod DailyBands
+pub mod Evidence
+pub mod FlatRules
+pub mod FlatWords
+pub mod Flats
+pub mod Places
+pub mod Questions
+pub mod RowWords
+pub mod Rows
+pub mod Steps
+pub mod Ticks
