@@ -65,6 +65,13 @@ fn index_futures() -> Result<(), Fail> {
             (Side::Buy, 94_590_000, 94_590_000),
             (Side::Sale, 94_590_000, 94_590_000),
         ],
+    )?;
+    ask(
+        &rule,
+        &[
+            (0, F, Some(10_000), None),
+            (TOP, C, None, Some(1_000_000_000)),
+        ],
     )
 }
 
@@ -78,6 +85,13 @@ fn gold_futures() -> Result<(), Fail> {
             (Side::Buy, 45_395_750, 45_400_000),
             (Side::Sale, 44_979_250, 44_975_000),
             (Side::Buy, 127_875, 130_000),
+        ],
+    )?;
+    ask(
+        &rule,
+        &[
+            (0, F, Some(5_000), None),
+            (TOP, C, None, Some(1_000_000_000)),
         ],
     )
 }
@@ -155,7 +169,14 @@ fn stock_futures() -> Result<(), Fail> {
         ],
     )?;
     let spread = Flat::new(100, 100, 1_000_000)?;
-    convert(&spread, &[(Side::Buy, 5_025, 5_100)])
+    convert(&spread, &[(Side::Buy, 5_025, 5_100)])?;
+    ask(
+        &spread,
+        &[
+            (0, F, Some(100), None),
+            (TOP, C, None, Some(100_000_000)),
+        ],
+    )
 }
 
 // Single-stock options; the day's limits are a band.
