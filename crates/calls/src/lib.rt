@@ -1,3 +1,4 @@
+#![tactic(auto)]
 // What is asked of a book, what it answers, why it refuses, and the rules of the book as a machine.
 mod call;
 mod refusal;

@@ -1,3 +1,4 @@
+#![tactic(auto)]
 // What the whole engine speaks of: sides, kinds, orders, their priority, and the limits.
 pub mod limits;
 mod order;

@@ -1,3 +1,4 @@
+#![tactic(auto)]
 // A book driven by an order tape: one command at a place, or all of them to the tape's end.
 mod commands;
 mod fault;

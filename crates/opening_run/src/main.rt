@@ -1,3 +1,4 @@
+#![tactic(auto)]
 // Opens a book by an order tape that is read from standard input, and prints what it says to each
 // command. The rule is flat: 1,000,000 ticks from 1,000 in steps of 1,000. A side has 256 orders.
 mod closing;

@@ -1,3 +1,4 @@
+#![tactic(auto)]
 // Entries kept in the order of a ranking, over lent rows.
 mod list;
 mod predicate;

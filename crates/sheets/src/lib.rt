@@ -1,3 +1,4 @@
+#![tactic(auto)]
 // Order sheets: one interface, and two stores of orders over lent rows with the same meaning.
 mod arrival;
 mod arrival_sheet;

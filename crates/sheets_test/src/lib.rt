@@ -1,3 +1,4 @@
+#![tactic(auto)]
 // Tests of the order sheets: one body for every sheet.
 #[cfg(test)]
 mod tests {

@@ -1,3 +1,4 @@
+#![tactic(auto)]
 // The order tape: commands of fixed widths, read without a copy and written one way.
 mod command;
 mod decode;

@@ -1,3 +1,4 @@
+#![tactic(auto)]
 // Lists the commands of an order tape that is read from standard input: a line for each with its
 // ordinal, its place and its operands, and at the end how many there are, or the fault and its place.
 mod end;

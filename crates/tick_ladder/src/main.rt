@@ -1,5 +1,6 @@
 //! Prints a short ladder of each kind of tick rule: every tick from the lowest up, and behind one
 //! that is not admitted the letter of its cause.
+#![tactic(auto)]
 
 use std::io;
 use ticks::{Banded, DailyBand, Flat, Row, TickRule};

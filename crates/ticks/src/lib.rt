@@ -3,6 +3,7 @@
 //! A rule means a strictly rising list of ticks with a floor and a ceiling, and answers three
 //! questions about any price. `Flat`, `Banded` and `DailyBand` are rules, and so is a rule that is
 //! lent.
+#![tactic(auto)]
 
 mod band;
 mod banded;

@@ -1,4 +1,5 @@
 //! Tests of the tick rules: worked examples, real tables and every refusal.
+#![tactic(auto)]
 
 #[cfg(test)]
 mod asked;
