@@ -15,7 +15,7 @@ returns-in-Some g c =
     let i = c.in-Some.at in
     let p = g.T.Predicate.passes c.args.test.now in
     let h : i < n = row-found {X = g.row.E.Denot} p xs i n c.requires c.in-Some.ensures in
-    first_found {X = g.row.E.Denot} p (take n xs) i c.row-at.result c.in-Some.ensures (λ d. c.row-at.ensures d ∙ sym (get_or-take n xs i d h))
+    first_found {X = g.row.E.Denot} p (take n xs) i c.row_at.result c.in-Some.ensures (λ d. c.row_at.ensures d ∙ sym (get_or-take n xs i d h))
 
 pub returns-in-None : goal.returns-in-None
 returns-in-None g c = first-missing {X = g.row.E.Denot} (g.T.Predicate.passes c.args.test.now) (take c.args.len c.args.rows.now) c.in-None.ensures

@@ -10,9 +10,9 @@ returns g c =
     let s = c.args.ranking.now in
     let p = c.place-at.ensures in
     let before = take c.args.len c.args.rows.now in
-    let held : take (c.args.len + 1) c.open-at.new.rows ≡ insert_by (ranked (m.ahead s) (m.key_of s)) c.args.entry before =
-    put_is {X = g.row.E.Denot} (m.ahead s) (m.key_of s) c.args.entry c.key-key.result c.args.rows.now c.open-at.new.rows c.place-at.result c.args.len
-    c.key-key.ensures (omega arith) p.within p.past p.here c.open-at.ensures.held in
+    let held : take (c.args.len + 1) c.open_at.new.rows ≡ insert_by (ranked (m.ahead s) (m.key_of s)) c.args.entry before =
+    put_is {X = g.row.E.Denot} (m.ahead s) (m.key_of s) c.args.entry c.key-key.result c.args.rows.now c.open_at.new.rows c.place-at.result c.args.len
+    c.key-key.ensures (omega arith) p.within p.past p.here c.open_at.ensures.held in
     record {
       held = held;
       sorted = λ new. subst (Sorted (ranked (m.ahead s) (m.key_of s))) (sym held)
