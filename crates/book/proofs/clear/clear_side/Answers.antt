@@ -24,7 +24,7 @@ pub returns : goal.returns
 returns g c =
     let m = g.S.OrderSheet in
     record {
-      after = emptied c.args.side (m.meaning c.args.sheet.now) (m.meaning c.loop-order.sheet) c.loop-order.invariant.0 c.in-default.ensures;
+      after = emptied c.args.side (m.meaning c.args.sheet.now) (m.meaning c.loop-order.sheet) c.loop-order.invariant.0 c.in_default.ensures;
       size = c.loop-order.invariant.1;
       rows = c.loop-order.invariant.2;
     }

@@ -3,8 +3,8 @@ use Rattle.tape.specs.Views.{view, Steps}
 use Rattle.opening.proofs.Accounts.{account-read}
 use Rattle.opening.proofs.commands.advance.Goals as goal
 
-pub call-of-requires : goal.call-of-requires
-call-of-requires g c =
+pub call_of-requires : goal.call_of-requires
+call_of-requires g c =
     let r = c.args.reader.now in
     let steps : Steps r.tape r.place r.began (Ok (Some c.in-Some.command)) c.next.new.self.place c.next.new.self.began = search rules in
     let read = steps.1 in

@@ -3,8 +3,8 @@ use Rattle.std.proofs.lemmas.List.{get_or-take}
 use Rattle.ordered.proofs.Indexes.{row-found, first_found, first-missing}
 use Rattle.ordered.proofs.rows.find.Goals as goal
 
-pub row-at-requires : goal.row-at-requires
-row-at-requires g c =
+pub row_at-requires : goal.row_at-requires
+row_at-requires g c =
     let h : c.in-Some.at < c.args.len = row-found {X = g.row.E.Denot} (g.T.Predicate.passes c.args.test.now) c.args.rows.now c.in-Some.at c.args.len c.requires c.in-Some.ensures in
     omega arith
 

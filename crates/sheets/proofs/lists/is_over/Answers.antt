@@ -11,5 +11,5 @@ returns-then-list-capacity c =
     let k = c.args.number in
     let xs = take l.len l.rows.now in
     let len = length-take-le l.len l.rows.now c.requires in
-    over-full c.args.capacity k xs (is_some c.position.result) c.is-none.result (omega arith)
-    (some-index (numbered k) xs ∙ ap is_some (sym c.position.ensures)) c.is-none.ensures
+    over-full c.args.capacity k xs (is_some c.position.result) c.is_none.result (omega arith)
+    (some-index (numbered k) xs ∙ ap is_some (sym c.position.ensures)) c.is_none.ensures

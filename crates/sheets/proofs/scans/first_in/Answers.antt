@@ -18,6 +18,6 @@ loop-i-init c =
 pub loop-i-preserved : goal.loop-i-preserved
 loop-i-preserved c = (
   omega arith,
-  c.first-with-first.ensures
+  c.first_with-first.ensures
       ∙ best_turn c.args.side c.args.behind c.args.rows.now c.args.len c.loop-i.i _ c.loop-i.first (apart_from (take c.args.len c.args.rows.now) c.requires.apart) c.requires.fits c.loop-i-test.true c.loop-i.invariant.0 c.loop-i.invariant.1,
 )

@@ -7,15 +7,15 @@ use Rattle.tape.proofs.parts.read_at.Goals as goal
 pub returns-then-place-tape : goal.returns-then-place-tape
 returns-then-place-tape c = none-past c.args.tape.now c.args.place (omega arith)
 
-pub returns-in-err-command : goal.returns-in-err-command
-returns-in-err-command c =
+pub returns-in_err-command : goal.returns-in_err-command
+returns-in_err-command c =
     let p = err_from_is_err_and c.from-residual.result c.from-residual.ensures.1 in
-    rw (p.1, p.2) (ap decode (sym c.tail.ensures.2) ∙ sym c.in-err-command.ensures.taken.value)
+    rw (p.1, p.2) (ap decode (sym c.tail.ensures.2) ∙ sym c.in_err-command.ensures.taken.value)
 
 pub returns : goal.returns
 returns c =
-    read_behind c.args.tape c.tail.result c.in-ok-command.rest c.args.place c.in-ok-command.command
-    (omega arith) c.tail.ensures c.in-ok-command.ensures.taken c.in-ok-command.ensures.writing
+    read_behind c.args.tape c.tail.result c.in_ok-command.rest c.args.place c.in_ok-command.command
+    (omega arith) c.tail.ensures c.in_ok-command.ensures.taken c.in_ok-command.ensures.writing
 
 pub overflow-sub-result : goal.overflow-sub-result
-overflow-sub-result c = rest-shorter c.args.tape c.tail.result c.in-ok-command.rest c.args.place c.in-ok-command.command c.tail.ensures c.in-ok-command.ensures.taken
+overflow-sub-result c = rest-shorter c.args.tape c.tail.result c.in_ok-command.rest c.args.place c.in_ok-command.command c.tail.ensures c.in_ok-command.ensures.taken

@@ -14,23 +14,23 @@ use Rattle.sheets.proofs.Spares.{rows-kept, when_some, when_none}
 use Rattle.sheets.proofs.Lines.{find-arranged, arranged-take, rows-counted}
 use Rattle.sheets.proofs.arrival.ArrivalSheet.remove.Goals as goal
 
-pub returns-in-default : goal.returns-in-default
-returns-in-default c =
+pub returns-in_default : goal.returns-in_default
+returns-in_default c =
     let s = c.args.self.now in
     let k = c.args.number in
     let xs = take s.len s.rows.now in
     let apart : Apart xs = apart_from xs s.apart in
-    let e = missing-is k xs c.in-default.ensures in
+    let e = missing-is k xs c.in_default.ensures in
     record {
-      value = first-missing (numbered k) xs c.in-default.ensures ∙ find-arranged k xs apart;
+      value = first-missing (numbered k) xs c.in_default.ensures ∙ find-arranged k xs apart;
       after = ap arranged e ∙ arranged-take k xs apart;
       size = refl;
-      rows = when_none _ _ (find_in k (held_by_arrival s)) (first-missing (numbered k) xs c.in-default.ensures ∙ find-arranged k xs apart) refl;
+      rows = when_none _ _ (find_in k (held_by_arrival s)) (first-missing (numbered k) xs c.in_default.ensures ∙ find-arranged k xs apart) refl;
       order = e;
     }
 
-pub remove-row-order-requires : goal.remove-row-order-requires
-remove-row-order-requires c =
+pub remove_row-order-requires : goal.remove_row-order-requires
+remove_row-order-requires c =
     let s = c.args.self.now in
     (row-found (numbered c.args.number) s.rows.now c.in-Some.at s.len s.fits c.in-Some.ensures, s.fits)
 
@@ -40,14 +40,14 @@ invariant-of-self c =
     let k = c.args.number in
     let xs = take s.len s.rows.now in
     let apart : Apart xs = apart_from xs s.apart in
-    let left : take (s.len - 1) c.remove-row-order.new.rows ≡ without k xs = c.remove-row-order.ensures.held ∙ removed_is k xs c.in-Some.at apart c.in-Some.ensures in
-    let still : is_apart (take (s.len - 1) c.remove-row-order.new.rows) ≡ true = ap is_apart left ∙ apart-to (without k xs) (apart-kept k xs apart) in
-    let short : s.len - 1 ≤ length c.remove-row-order.new.rows = omega (arith, s.fits, c.remove-row-order.auto.rows) in
-    let counts = rows-counted (s.len - 1) c.remove-row-order.new.rows short in
-    let lawful : is_sheet s.capacity (arranged (take (s.len - 1) c.remove-row-order.new.rows)) ≡ true =
+    let left : take (s.len - 1) c.remove_row-order.new.rows ≡ without k xs = c.remove_row-order.ensures.held ∙ removed_is k xs c.in-Some.at apart c.in-Some.ensures in
+    let still : is_apart (take (s.len - 1) c.remove_row-order.new.rows) ≡ true = ap is_apart left ∙ apart-to (without k xs) (apart-kept k xs apart) in
+    let short : s.len - 1 ≤ length c.remove_row-order.new.rows = omega (arith, s.fits, c.remove_row-order.auto.rows) in
+    let counts = rows-counted (s.len - 1) c.remove_row-order.new.rows short in
+    let lawful : is_sheet s.capacity (arranged (take (s.len - 1) c.remove_row-order.new.rows)) ≡ true =
     ap (λ (ys : List Order). is_sheet s.capacity (arranged ys)) left ∙ ap (is_sheet s.capacity) (arranged-take k xs apart)
     ∙ tested s.capacity (take_from k (held_by_arrival s)) (take-lawful s.capacity k (held_by_arrival s) (arrival_laws s)) in
-    (c.remove-row-order.auto.rows ∙ s.both, (omega (arith, s.fits, c.remove-row-order.auto.rows), (counts, (still, (lawful, tt)))))
+    (c.remove_row-order.auto.rows ∙ s.both, (omega (arith, s.fits, c.remove_row-order.auto.rows), (counts, (still, (lawful, tt)))))
 
 pub returns : goal.returns
 returns c =
@@ -56,13 +56,13 @@ returns c =
     let xs = take s.len s.rows.now in
     let apart : Apart xs = apart_from xs s.apart in
     let lt = row-found (numbered k) s.rows.now c.in-Some.at s.len s.fits c.in-Some.ensures in
-    let r = c.remove-row-order.ensures in
-    let left : take (s.len - 1) c.remove-row-order.new.rows ≡ without k xs = r.held ∙ removed_is k xs c.in-Some.at apart c.in-Some.ensures in
-    let value : Some c.remove-row-order.result ≡ find_in k (held_by_arrival s) = first_found (numbered k) xs c.in-Some.at c.remove-row-order.result c.in-Some.ensures (λ d. r.value d ∙ sym (get_or-take s.len s.rows.now c.in-Some.at d lt)) ∙ find-arranged k xs apart in
+    let r = c.remove_row-order.ensures in
+    let left : take (s.len - 1) c.remove_row-order.new.rows ≡ without k xs = r.held ∙ removed_is k xs c.in-Some.at apart c.in-Some.ensures in
+    let value : Some c.remove_row-order.result ≡ find_in k (held_by_arrival s) = first_found (numbered k) xs c.in-Some.at c.remove_row-order.result c.in-Some.ensures (λ d. r.value d ∙ sym (get_or-take s.len s.rows.now c.in-Some.at d lt)) ∙ find-arranged k xs apart in
     record {
       value = value;
       after = ap arranged left ∙ arranged-take k xs apart;
       size = refl;
-      rows = when_some _ _ (find_in k (held_by_arrival s)) c.remove-row-order.result value (rows-kept s.len (s.len - 1) s.rows.now c.remove-row-order.new.rows c.remove-row-order.auto.rows r.past);
+      rows = when_some _ _ (find_in k (held_by_arrival s)) c.remove_row-order.result value (rows-kept s.len (s.len - 1) s.rows.now c.remove_row-order.new.rows c.remove_row-order.auto.rows r.past);
       order = left;
     }

@@ -12,7 +12,7 @@ pub loop-byte-preserved : goal.loop-byte-preserved
 loop-byte-preserved g c plain =
     let p = c.loop-byte.invariant plain in
     has_written_of_eq _ _ _ _ _ (account-more c.args.self.now.0.now c.loop-byte.byte-index c.loop-byte-test.true)
-    (has_written_append _ _ _ _ _ _ p (c.in-ok-write.ensures.writes p.plain refl))
+    (has_written_append _ _ _ _ _ _ p (c.in_ok-write.ensures.writes p.plain refl))
 
 pub returns-clause-writes : goal.returns-clause-writes
 returns-clause-writes g c plain ok =

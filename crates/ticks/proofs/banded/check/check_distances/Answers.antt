@@ -3,18 +3,18 @@ use Rattle.ticks.proofs.Surveys.{step-some, start_under, distance-not, distances
 use Rattle.ticks.proofs.banded.check.check_distances.Goals as goal
 
 pub overflow-sub-next : goal.overflow-sub-next
-overflow-sub-next c = start_under c.args.rows.now c.args.end c.loop-i.i _ c.requires (omega arith) c.start-at-next.ensures
+overflow-sub-next c = start_under c.args.rows.now c.args.end c.loop-i.i _ c.requires (omega arith) c.start_at-next.ensures
 
 pub nonzero-rem-next : goal.nonzero-rem-next
-nonzero-rem-next c = step-some c.args.rows.now c.args.end c.loop-i.i _ c.requires (omega arith) c.start-at-next.ensures
+nonzero-rem-next c = step-some c.args.rows.now c.args.end c.loop-i.i _ c.requires (omega arith) c.start_at-next.ensures
 
 pub returns-then-next-row-gt0 : goal.returns-then-next-row-gt0
 returns-then-next-row-gt0 c =
-    distance-not c.args.rows.now c.args.end c.loop-i.i _ c.loop-i.invariant (omega arith) _ c.start-at-next.ensures c.if-next-row-gt0.true
+    distance-not c.args.rows.now c.args.end c.loop-i.i _ c.loop-i.invariant (omega arith) _ c.start_at-next.ensures c.if-next-row-gt0.true
 
 pub loop-i-preserved : goal.loop-i-preserved
 loop-i-preserved c =
-    distances_more c.args.rows.now c.args.end c.loop-i.i _ c.loop-i.invariant (omega arith) _ c.start-at-next.ensures c.if-next-row-gt0.false
+    distances_more c.args.rows.now c.args.end c.loop-i.i _ c.loop-i.invariant (omega arith) _ c.start_at-next.ensures c.if-next-row-gt0.false
 
 pub returns : goal.returns
 returns c = distances_all c.args.rows.now c.args.end c.loop-i.i _ c.loop-i.invariant (omega arith)
