@@ -11,4 +11,4 @@ pub returns-in-None : goal.returns-in-None
 returns-in-None c =
     let k = c.args.number in
     let xs = held c.args.buys.now in
-    c.find_in-None.ensures ∙ sym (first-right (numbered k) xs (held c.args.offers.now) (first-none-some (numbered k) xs c.in-None.ensures))
+    c.find-in-None.ensures ∙ sym (first-right (numbered k) xs (held c.args.offers.now) (first-none-some (numbered k) xs c.in-None.ensures))

@@ -9,8 +9,8 @@ use Rattle.sheets.proofs.scans.find_in.Goals as goal
 within : (c : goal.In-Some) → c.in-Some.at < c.args.len
 within c = row-found (numbered c.args.number) c.args.rows.now c.in-Some.at c.args.len c.requires.fits c.in-Some.ensures
 
-pub offset-bounds-rows-at : goal.offset-bounds-rows-at
-offset-bounds-rows-at c = let h = within c in let i : c.in-Some.at < length c.args.rows.now = omega (arith, c.requires.fits) in search rules
+pub offset_bounds-rows-at : goal.offset_bounds-rows-at
+offset_bounds-rows-at c = let h = within c in let i : c.in-Some.at < length c.args.rows.now = omega (arith, c.requires.fits) in search rules
 
 pub bounds-rows-at : goal.bounds-rows-at
 bounds-rows-at c = let h = within c in omega (arith, c.requires.fits)

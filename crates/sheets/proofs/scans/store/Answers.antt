@@ -8,8 +8,8 @@ use Rattle.sheets.proofs.scans.store.Goals as goal
 within : (c : goal.In-Some) → c.in-Some.i < c.args.len
 within c = row-found (numbered c.args.order.number) c.args.rows.now c.in-Some.i c.args.len c.requires.fits (sym c.in-Some.is ∙ c.requires.index)
 
-pub offset-bounds-rows-i : goal.offset-bounds-rows-i
-offset-bounds-rows-i c = let h = within c in let i : c.in-Some.i < length c.args.rows.now = omega (arith, c.requires.fits) in search rules
+pub offset_bounds-rows-i : goal.offset_bounds-rows-i
+offset_bounds-rows-i c = let h = within c in let i : c.in-Some.i < length c.args.rows.now = omega (arith, c.requires.fits) in search rules
 
 pub bounds-rows-i : goal.bounds-rows-i
 bounds-rows-i c = let h = within c in omega (arith, c.requires.fits)

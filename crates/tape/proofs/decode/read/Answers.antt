@@ -13,5 +13,5 @@ writing bytes (Err f) b t = tt
 pub returns : goal.returns
 returns c = record {
   taken = c.split.ensures;
-  writing = writing c.args.bytes c.split.result (λ k _. let h = c.type-inv.bytes k in omega (arith, h)) c.split.ensures;
+  writing = writing c.args.bytes c.split.result (λ k _. let h = c.type_inv.bytes k in omega (arith, h)) c.split.ensures;
 }

@@ -27,8 +27,8 @@ store-requires c =
           omega (arith, s.both);
     }
 
-pub invariant-of-self : goal.invariant-of-self
-invariant-of-self c =
+pub invariant_of-self : goal.invariant_of-self
+invariant_of-self c =
     let s = c.args.self.now in
     let o = c.args.order in
     let xs = take s.len s.rows.now in

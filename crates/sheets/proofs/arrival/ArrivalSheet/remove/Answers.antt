@@ -34,8 +34,8 @@ remove_row-order-requires c =
     let s = c.args.self.now in
     (row-found (numbered c.args.number) s.rows.now c.in-Some.at s.len s.fits c.in-Some.ensures, s.fits)
 
-pub invariant-of-self : goal.invariant-of-self
-invariant-of-self c =
+pub invariant_of-self : goal.invariant_of-self
+invariant_of-self c =
     let s = c.args.self.now in
     let k = c.args.number in
     let xs = take s.len s.rows.now in

@@ -15,8 +15,8 @@ insert-requires c =
     let lt : s.buys.len < s.capacity = list-place Buy c.args.order s c.in-Buy.is c.requires.place in
     record { fits = omega (arith, s.buys_rows); sorted = list-sorted Buy s }
 
-pub invariant-of-self : goal.invariant-of-self
-invariant-of-self c =
+pub invariant_of-self : goal.invariant_of-self
+invariant_of-self c =
     let s = c.args.self.now in
     let o = c.args.order in
     let r = c.insert.ensures in
@@ -31,8 +31,8 @@ insert-requires-in-Offer c =
     let lt : s.offers.len < s.capacity = list-place Offer c.args.order s c.in-Offer.is c.requires.place in
     record { fits = omega (arith, s.offers_rows); sorted = list-sorted Offer s }
 
-pub invariant-of-self-in-Offer : goal.invariant-of-self-in-Offer
-invariant-of-self-in-Offer c =
+pub invariant_of-self-in-Offer : goal.invariant_of-self-in-Offer
+invariant_of-self-in-Offer c =
     let s = c.args.self.now in
     let o = c.args.order in
     let r = c.insert-in-Offer.ensures in

@@ -14,8 +14,8 @@ use Rattle.sheets.proofs.priority.PrioritySheet.remove.Goals as goal
 pub take_from-requires : goal.take_from-requires
 take_from-requires c = let s = c.args.self.now in record { fits = list-fits Buy s; apart = apart-left (held s.buys) (held s.offers) (priority_laws s).apart }
 
-pub invariant-of-self : goal.invariant-of-self
-invariant-of-self c =
+pub invariant_of-self : goal.invariant_of-self
+invariant_of-self c =
     let s = c.args.self.now in
     let k = c.args.number in
     let r = c.take_from.ensures in
@@ -37,8 +37,8 @@ invariant-of-self c =
 pub take_from-requires-in-None : goal.take_from-requires-in-None
 take_from-requires-in-None c = let s = c.args.self.now in record { fits = list-fits Offer s; apart = apart-right (held s.buys) (held s.offers) (priority_laws s).apart }
 
-pub invariant-of-self-in-None : goal.invariant-of-self-in-None
-invariant-of-self-in-None c =
+pub invariant_of-self-in-None : goal.invariant_of-self-in-None
+invariant_of-self-in-None c =
     let s = c.args.self.now in
     let k = c.args.number in
     let r = c.take_from.ensures in
