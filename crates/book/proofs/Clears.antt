@@ -1,6 +1,6 @@
 -- The rows of a sheet: an emptied one has only spare rows, and none gets more or fewer.
 use Rattle.std.proofs.Common.{◌≡◌, ℕ, suc, ◌+◌, Bool, true, false, cond, List, [], ◌∷◌, length, Ok, Err, MatchBool, filter, Result, sym, refl, ap, ◌∙◌, arith}
-use Rattle.std.specs.List.{AllZip, AllByRecursion as All}
+use Rattle.std.specs.List.{AllZip, AllByRecursion}
 use Rattle.ordered.specs.Sorting.{sort_by, insert_by}
 use Rattle.market.specs.declared.order.Order.{Order}
 use Rattle.market.specs.declared.order.Side.{Side}
@@ -35,16 +35,16 @@ none-arranged [] e = refl
 none-arranged (o ∷ xs) e = absurd (none-sided o xs (ap (λ (s : Sides). s.buys) e) (ap (λ (s : Sides). s.offers) e))
 
 -- rows of which none is occupied are spare
-pub none-occupied : (rs : List Row) → occupied rs ≡ [] → All (λ r. r.spare ≡ true) rs
+pub none-occupied : (rs : List Row) → occupied rs ≡ [] → AllByRecursion (λ r. r.spare ≡ true) rs
 none-occupied [] e = tt
 none-occupied (r ∷ rs) e = either r.spare refl e (none-occupied rs)
   where
-    either : (b : Bool) → r.spare ≡ b → cond b (occupied rs) (r.order ∷ occupied rs) ≡ [] → (occupied rs ≡ [] → All (λ x. x.spare ≡ true) rs) → (r.spare ≡ true) × All (λ x. x.spare ≡ true) rs
+    either : (b : Bool) → r.spare ≡ b → cond b (occupied rs) (r.order ∷ occupied rs) ≡ [] → (occupied rs ≡ [] → AllByRecursion (λ x. x.spare ≡ true) rs) → (r.spare ≡ true) × AllByRecursion (λ x. x.spare ≡ true) rs
     either true same e rest = (same, rest e)
     either false same e rest = absurd (let z : ◌≡◌ {A = ℕ} 0 1 = cc in omega arith)
 
 -- every row of an empty sheet is spare
-pub all-spare : (rs : List Row) (s : Sides) → arranged (occupied rs) ≡ s → s ≡ sides_of [] [] → All (λ r. r.spare ≡ true) rs
+pub all-spare : (rs : List Row) (s : Sides) → arranged (occupied rs) ≡ s → s ≡ sides_of [] [] → AllByRecursion (λ r. r.spare ≡ true) rs
 all-spare rs s stored empty = none-occupied rs (none-arranged (occupied rs) (stored ∙ empty))
 
 each-length : {X : Type 0} (P : X → X → Type 0) (xs ys : List X) → AllZip P xs ys → length ys ≡ length xs

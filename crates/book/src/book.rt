@@ -1,6 +1,6 @@
 // The book and its calls.
 ghost use Rattle.std.specs.Prelude.{◌≡◌, true, length};
-ghost use Rattle.std.specs.List.{AllByRecursion as All};
+ghost use Rattle.std.specs.List.{AllByRecursion};
 ghost use Rattle.calls.specs.declared.call.Call.TheVariants.{Start, Enter, Withdraw, Amend};
 ghost use Rattle.calls.specs.State.{opened};
 ghost use Rattle.sheets.specs.Sides.{find_in};
@@ -34,7 +34,7 @@ impl<R: TickRule, S: OrderSheet> Book<R, S> {
         ensures rule { result.rule ≡ rule }
         ensures size { S.OrderSheet.room result.sheet ≡ S.OrderSheet.room sheet }
         ensures rows { length (S.OrderSheet.rows result.sheet) ≡ length (S.OrderSheet.rows sheet) }
-        ensures spare { All (λ row. row.spare ≡ true) (S.OrderSheet.rows result.sheet) }
+        ensures spare { AllByRecursion (λ row. row.spare ≡ true) (S.OrderSheet.rows result.sheet) }
     {
         clear(&mut sheet);
         Book {

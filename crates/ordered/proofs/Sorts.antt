@@ -1,6 +1,6 @@
 -- Where an entry goes in, is found and is taken out, and that the order is kept.
 use Rattle.std.proofs.Common.{◌≡◌, ℕ, zero, suc, ◌+◌, ◌-◌, ◌<◌, ◌≤◌, Bool, true, false, cond, ◌≢◌, List, [], ◌∷◌, length, get_or, take, drop, set, Some, None, sym, refl, ap, ◌∙◌, inl, inr, ⊎_elim, arith}
-use Rattle.std.specs.List.{insert, remove, AllByRecursion as All}
+use Rattle.std.specs.List.{insert, remove, AllByRecursion}
 use Rattle.std.proofs.lemmas.List.{same_lists, get_or-take, get_or-drop, get_or-set_other, get_or-set_same, length-take-le, length-set, length-drop}
 use Rattle.std.proofs.lemmas.List.Edits.{length-remove, get_or-remove_below, get_or-remove_above, length-insert as length_inserted, get_or-insert_below, get_or-insert_at, get_or-insert_above}
 use Rattle.std.proofs.ByRecursion.{All-weaker, All-get_or}
@@ -64,16 +64,16 @@ module _ {X : Type 0} (xs ys : List X) (at n : ℕ) (x : X)
       let ne : (n + 1) + k ≢ at = omega arith in
       get_or-drop (n + 1) (set ys at x) k d ∙ get_or-set_other ys at ((n + 1) + k) x d ne ∙ high ((n + 1) + k) d (omega arith) ∙ sym (get_or-drop (n + 1) xs k d))
 
-pub all_insert : {X : Type 0} (ahead : X → X → Bool) (P : X → Type 0) (x : X) (xs : List X) → P x → All P xs → All P (insert_by ahead x xs)
+pub all_insert : {X : Type 0} (ahead : X → X → Bool) (P : X → Type 0) (x : X) (xs : List X) → P x → AllByRecursion P xs → AllByRecursion P (insert_by ahead x xs)
 all_insert ahead P x [] px ps = (px, tt)
 all_insert ahead P x (y ∷ ys) px ps =
-    elim (ahead x y) as (λ b. All P (cond b (x ∷ y ∷ ys) (y ∷ insert_by ahead x ys)))
+    elim (ahead x y) as (λ b. AllByRecursion P (cond b (x ∷ y ∷ ys) (y ∷ insert_by ahead x ys)))
     [ true ↦ (px, ps) | false ↦ (ps.0, all_insert ahead P x ys px ps.1) ]
 
 pub sorted_insert : {X K : Type 0} (ahead : X → X → Bool) (key : X → K)
     → ((x y z : X) → ahead x y ≡ true → ahead y z ≡ true → ahead x z ≡ true)
     → ((x y : X) → ahead x y ≡ false → ahead y x ≡ false → key x ≡ key y)
-    → (x : X) (xs : List X) → All (λ y. key y ≡ key x → ⊥) xs → Sorted ahead xs → Sorted ahead (insert_by ahead x xs)
+    → (x : X) (xs : List X) → AllByRecursion (λ y. key y ≡ key x → ⊥) xs → Sorted ahead xs → Sorted ahead (insert_by ahead x xs)
 sorted_insert ahead key tr total x [] new s = (tt, tt)
 sorted_insert ahead key tr total x (y ∷ ys) new s =
     ⊎_elim
@@ -190,7 +190,7 @@ past-mid ahead key tr xs n room s v w m mn is nay k d le =
     (cases_order k m)
 
 -- an entry taken out
-pub all-removed : {X : Type 0} (P : X → Type 0) (xs : List X) (i : ℕ) → All P xs → All P (remove xs i)
+pub all-removed : {X : Type 0} (P : X → Type 0) (xs : List X) (i : ℕ) → AllByRecursion P xs → AllByRecursion P (remove xs i)
 all-removed P [] zero h = tt
 all-removed P [] (suc i) h = tt
 all-removed P (x ∷ xs) zero h = h.1
@@ -203,7 +203,7 @@ sorted-removed ahead (x ∷ xs) zero h = h.1
 sorted-removed ahead (x ∷ xs) (suc i) h = (all-removed (λ y. ahead x y ≡ true) xs i h.0, sorted-removed ahead xs i h.1)
 
 -- what is ahead of all goes to the front, and what is in order stays so
-pub insert-front : {X : Type 0} (ahead : X → X → Bool) (x : X) (xs : List X) → All (λ y. ahead x y ≡ true) xs → insert_by ahead x xs ≡ x ∷ xs
+pub insert-front : {X : Type 0} (ahead : X → X → Bool) (x : X) (xs : List X) → AllByRecursion (λ y. ahead x y ≡ true) xs → insert_by ahead x xs ≡ x ∷ xs
 insert-front ahead x [] h = refl
 insert-front ahead x (y ∷ ys) h = rw h.0 refl
 

@@ -1,7 +1,7 @@
 -- Lists kept in the order of a test.
 use Rattle.std.specs.Prelude.{◌≡◌, ℕ, suc, Bool, true, false, cond, List, [], ◌∷◌, Some, None, Option}
 use Rattle.std.specs.Option.{option_map}
-use Rattle.std.specs.List.{AllByRecursion as All}
+use Rattle.std.specs.List.{AllByRecursion}
 
 -- entries in the order of their keys
 abbrev pub ranked : {E K : Type 0} → (K → K → Bool) → (E → K) → E → E → Bool
@@ -15,7 +15,7 @@ insert_by ahead x (y ∷ ys) = cond (ahead x y) (x ∷ y ∷ ys) (y ∷ insert_b
 -- each entry is ahead of every later one
 abbrev pub Sorted : {E : Type 0} → (E → E → Bool) → List E → Type 0
 Sorted ahead [] = Unit {0}
-Sorted ahead (x ∷ xs) = All (λ y. ahead x y ≡ true) xs × Sorted ahead xs
+Sorted ahead (x ∷ xs) = AllByRecursion (λ y. ahead x y ≡ true) xs × Sorted ahead xs
 
 -- whether some entry passes the test
 abbrev pub some_of : {E : Type 0} → (E → Bool) → List E → Bool

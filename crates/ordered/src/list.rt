@@ -1,6 +1,6 @@
 // One ordered list for every kind of entry whose keys are totally ordered.
 ghost use Rattle.std.specs.Prelude.{◌≡◌, ◌+◌, ◌<◌, ◌≤◌, Bool, true, length, ◌≢◌, slice_index_or};
-ghost use Rattle.std.specs.List.{remove, AllByRecursion as All};
+ghost use Rattle.std.specs.List.{remove, AllByRecursion};
 ghost use Rattle.ordered.specs.Sorting.{ranked, insert_by, Sorted, first_of, index_of};
 ghost use Rattle.ordered.specs.Meaning.{held, SpareKept};
 
@@ -23,7 +23,7 @@ impl<'a, E: Copy> OrderedList<'a, E> {
         requires fits { self.old.len < length self.old.rows.now }
         requires sorted { Sorted (ranked (R.Ranking.ahead ranking.now) (R.Ranking.key_of ranking.now)) (held self.old) }
         ensures held { held self.new ≡ insert_by (ranked (R.Ranking.ahead ranking.now) (R.Ranking.key_of ranking.now)) entry (held self.old) }
-        ensures sorted { All (λ x. R.Ranking.key_of ranking.now x ≢ R.Ranking.key_of ranking.now entry) (held self.old) → Sorted (ranked (R.Ranking.ahead ranking.now) (R.Ranking.key_of ranking.now)) (held self.new) }
+        ensures sorted { AllByRecursion (λ x. R.Ranking.key_of ranking.now x ≢ R.Ranking.key_of ranking.now entry) (held self.old) → Sorted (ranked (R.Ranking.ahead ranking.now) (R.Ranking.key_of ranking.now)) (held self.new) }
         ensures more { self.new.len ≡ self.old.len + 1 }
         ensures room { length self.new.rows.now ≡ length self.old.rows.now }
         ensures spare { SpareKept self.old self.new }

@@ -1,6 +1,6 @@
 // The first `len` of some rows hold entries; the rows past them are spare.
 ghost use Rattle.std.specs.Prelude.{◌≡◌, ℕ, ◌+◌, ◌-◌, ◌<◌, ◌≤◌, Bool, true, false, length, take, drop, ◌≢◌, slice_index_or};
-ghost use Rattle.std.specs.List.{insert, remove, AllByRecursion as All};
+ghost use Rattle.std.specs.List.{insert, remove, AllByRecursion};
 ghost use Rattle.ordered.specs.Sorting.{ranked, insert_by, Sorted, first_of, index_of};
 
 use crate::predicate::Predicate;
@@ -54,7 +54,7 @@ pub(crate) fn insert_row<E: Copy, K: Drop, R: Ranking<E, K>>(
     requires fits { len < length rows.old }
     requires sorted { Sorted (ranked (R.Ranking.ahead ranking.now) (R.Ranking.key_of ranking.now)) (take len rows.old) }
     ensures held { take (len + 1) rows.new ≡ insert_by (ranked (R.Ranking.ahead ranking.now) (R.Ranking.key_of ranking.now)) entry (take len rows.old) }
-    ensures sorted { All (λ x. R.Ranking.key_of ranking.now x ≢ R.Ranking.key_of ranking.now entry) (take len rows.old) → Sorted (ranked (R.Ranking.ahead ranking.now) (R.Ranking.key_of ranking.now)) (take (len + 1) rows.new) }
+    ensures sorted { AllByRecursion (λ x. R.Ranking.key_of ranking.now x ≢ R.Ranking.key_of ranking.now entry) (take len rows.old) → Sorted (ranked (R.Ranking.ahead ranking.now) (R.Ranking.key_of ranking.now)) (take (len + 1) rows.new) }
     ensures past { drop (len + 1) rows.new ≡ drop (len + 1) rows.old }
 {
     let key = ranking.key(&entry);

@@ -1,6 +1,6 @@
 -- The laws of a sheet are kept by a take and by a put.
 use Rattle.std.proofs.Common.{◌≡◌, ℕ, suc, ◌+◌, ◌^◌, ◌<◌, ◌≤◌, Bool, true, false, cond, not, ◌&&◌, ltb, leb, List, [], ◌∷◌, ◌++◌, length, filter, sym, refl, ap, ◌∙◌, subst, ⊎_elim, arith}
-use Rattle.std.specs.List.{AllByRecursion as All}
+use Rattle.std.specs.List.{AllByRecursion}
 use Rattle.std.proofs.lemmas.List.Elements.{filter-append}
 use Rattle.std.proofs.ByRecursion.{all_kept_by, All-append}
 use Rattle.std.proofs.lemmas.Bool.{cases_Bool, both_ways, and_from, and_cases, not-false, not_from_false, le-leb, lt-ltb, lt-leb, leb-false, cond-true, cond-false}
@@ -17,7 +17,7 @@ use Rattle.sheets.proofs.Numbers.{all_left, all_right, without-free, free-none, 
 
 -- ---- the test tells no more than the laws
 
-all-to : {X : Type 0} (test : X → Bool) (P : X → Type 0) → ((x : X) → P x → test x ≡ true) → (xs : List X) → All P xs → all_of test xs ≡ true
+all-to : {X : Type 0} (test : X → Bool) (P : X → Type 0) → ((x : X) → P x → test x ≡ true) → (xs : List X) → AllByRecursion P xs → all_of test xs ≡ true
 all-to test P says [] e = refl
 all-to test P says (x ∷ xs) e = and_from (test x) (all_of test xs) (says x e.0) (all-to test P says xs e.1)
 
@@ -96,7 +96,7 @@ take-lawful n k s l =
 
 -- ---- a put
 
-all-insert-left : {X : Type 0} (ahead : X → X → Bool) (P : X → Type 0) (x : X) (xs ys : List X) → P x → All P (xs ++ ys) → All P (insert_by ahead x xs ++ ys)
+all-insert-left : {X : Type 0} (ahead : X → X → Bool) (P : X → Type 0) (x : X) (xs ys : List X) → P x → AllByRecursion P (xs ++ ys) → AllByRecursion P (insert_by ahead x xs ++ ys)
 all-insert-left ahead P x xs ys px h = All-append P (insert_by ahead x xs) ys (all_insert ahead P x xs px (all_left P xs ys h)) (all_right P xs ys h)
 
 apart-insert-left : (ahead : Order → Order → Bool) (o : Order) (xs ys : List Order) → Free o.number (xs ++ ys) → Apart (xs ++ ys) → Apart (insert_by ahead o xs ++ ys)

@@ -1,6 +1,6 @@
 -- The sides that rows in any order make.
 use Rattle.std.proofs.Common.{◌≡◌, ℕ, zero, suc, ◌+◌, ◌-◌, ◌<◌, ◌≤◌, Bool, true, false, cond, not, ◌&&◌, leb, ◌≢◌, ◌⊎◌, List, [], ◌∷◌, ◌++◌, length, get_or, take, drop, Some, None, filter, Option, sym, refl, ap, ◌∙◌, subst, ap₂, inl, inr, ⊎_elim, arith}
-use Rattle.std.specs.List.{AllByRecursion as All}
+use Rattle.std.specs.List.{AllByRecursion}
 use Rattle.std.proofs.lemmas.List.{drop_more, length-take-le, get_or-take}
 use Rattle.std.proofs.lemmas.List.Filters.{length-filter_both, length-filter_more}
 use Rattle.std.proofs.ByRecursion.{All-weaker, all_kept_by}
@@ -27,14 +27,14 @@ line-cons s x xs =
     elim (on s x) as (λ b. sort_by (outranks s) (cond b (x ∷ filter (on s) xs) (filter (on s) xs)) ≡ cond b (insert_by (outranks s) x (line s xs)) (line s xs))
     [ true ↦ refl | false ↦ refl ]
 
-all-joined : (P : Order → Type 0) (s : Side) (x : Order) (xs : List Order) → P x → All P xs → All P (joined s x xs)
+all-joined : (P : Order → Type 0) (s : Side) (x : Order) (xs : List Order) → P x → AllByRecursion P xs → AllByRecursion P (joined s x xs)
 all-joined P s x xs px h =
-    elim (on s x) as (λ b. All P (cond b (insert_by (outranks s) x xs) xs))
+    elim (on s x) as (λ b. AllByRecursion P (cond b (insert_by (outranks s) x xs) xs))
     [ true ↦ all_insert (outranks s) P x xs px h | false ↦ h ]
 
-pub all-line : (P : Order → Type 0) (s : Side) (xs : List Order) → All P xs → All P (line s xs)
+pub all-line : (P : Order → Type 0) (s : Side) (xs : List Order) → AllByRecursion P xs → AllByRecursion P (line s xs)
 all-line P s [] h = tt
-all-line P s (x ∷ xs) h = subst (All P) (sym (line-cons s x xs)) (all-joined P s x (line s xs) h.0 (all-line P s xs h.1))
+all-line P s (x ∷ xs) h = subst (AllByRecursion P) (sym (line-cons s x xs)) (all-joined P s x (line s xs) h.0 (all-line P s xs h.1))
 
 sorted-joined : (s : Side) (x : Order) (xs : List Order) → Free x.number xs → Sorted (outranks s) xs → Sorted (outranks s) (joined s x xs)
 sorted-joined s x xs f h =
@@ -50,7 +50,7 @@ line-sorted s (x ∷ xs) h =
 -- ---- a number taken out
 
 module _ {X : Type 0} (ahead : X → X → Bool) (tr : (x y z : X) → ahead x y ≡ true → ahead y z ≡ true → ahead x z ≡ true) (p : X → Bool) where
-  behind_all : (x y : X) (ys : List X) → ahead x y ≡ true → All (λ z. ahead y z ≡ true) ys → All (λ z. ahead x z ≡ true) (y ∷ ys)
+  behind_all : (x y : X) (ys : List X) → ahead x y ≡ true → AllByRecursion (λ z. ahead y z ≡ true) ys → AllByRecursion (λ z. ahead x z ≡ true) (y ∷ ys)
   behind_all x y ys t h = (t, All-weaker (λ z. ahead y z ≡ true) (λ z. ahead x z ≡ true) (λ z k. tr x y z t k) ys h)
 
   pub kept-insert : (x : X) (xs : List X) → Sorted ahead xs → filter p (insert_by ahead x xs) ≡ cond (p x) (insert_by ahead x (filter p xs)) (filter p xs)
@@ -195,7 +195,7 @@ module _ {X : Type 0} (test : X → Bool) where
       (λ f. rw f refl)
       (cases_Bool (test x))
 
-  first-insert-left : (ahead : X → X → Bool) (x : X) (zs ws : List X) → (test x ≡ true → All (λ z. test z ≡ false) zs) → first_of test (insert_by ahead x zs ++ ws) ≡ cond (test x) (Some x) (first_of test (zs ++ ws))
+  first-insert-left : (ahead : X → X → Bool) (x : X) (zs ws : List X) → (test x ≡ true → AllByRecursion (λ z. test z ≡ false) zs) → first_of test (insert_by ahead x zs ++ ws) ≡ cond (test x) (Some x) (first_of test (zs ++ ws))
   first-insert-left ahead x [] ws h = refl
   first-insert-left ahead x (z ∷ zs) ws h =
       elim (ahead x z) as (λ b. first_of test (cond b (x ∷ z ∷ zs) (z ∷ insert_by ahead x zs) ++ ws) ≡ cond (test x) (Some x) (cond (test z) (Some z) (first_of test (zs ++ ws)))) [
@@ -203,7 +203,7 @@ module _ {X : Type 0} (test : X → Bool) where
         | false ↦ ap (λ r. cond (test z) (Some z) r) (first-insert-left ahead x zs ws (λ t. (h t).1)) ∙ cond-swap x z (first_of test (zs ++ ws)) (λ t. (h t).0)
       ]
 
-  first-insert : (ahead : X → X → Bool) (x : X) (zs : List X) → (test x ≡ true → All (λ z. test z ≡ false) zs) → first_of test (insert_by ahead x zs) ≡ cond (test x) (Some x) (first_of test zs)
+  first-insert : (ahead : X → X → Bool) (x : X) (zs : List X) → (test x ≡ true → AllByRecursion (λ z. test z ≡ false) zs) → first_of test (insert_by ahead x zs) ≡ cond (test x) (Some x) (first_of test zs)
   first-insert ahead x [] h = refl
   first-insert ahead x (z ∷ zs) h =
       elim (ahead x z) as (λ b. first_of test (cond b (x ∷ z ∷ zs) (z ∷ insert_by ahead x zs)) ≡ cond (test x) (Some x) (cond (test z) (Some z) (first_of test zs))) [
@@ -211,13 +211,13 @@ module _ {X : Type 0} (test : X → Bool) where
         | false ↦ ap (λ r. cond (test z) (Some z) r) (first-insert ahead x zs (λ t. (h t).1)) ∙ cond-swap x z (first_of test zs) (λ t. (h t).0)
       ]
 
-  first-insert-right : (ahead : X → X → Bool) (x : X) (ws zs : List X) → (test x ≡ true → All (λ z. test z ≡ false) ws) → (test x ≡ true → All (λ z. test z ≡ false) zs) → first_of test (ws ++ insert_by ahead x zs) ≡ cond (test x) (Some x) (first_of test (ws ++ zs))
+  first-insert-right : (ahead : X → X → Bool) (x : X) (ws zs : List X) → (test x ≡ true → AllByRecursion (λ z. test z ≡ false) ws) → (test x ≡ true → AllByRecursion (λ z. test z ≡ false) zs) → first_of test (ws ++ insert_by ahead x zs) ≡ cond (test x) (Some x) (first_of test (ws ++ zs))
   first-insert-right ahead x [] zs g h = first-insert ahead x zs h
   first-insert-right ahead x (w ∷ ws) zs g h =
       ap (λ r. cond (test w) (Some w) r) (first-insert-right ahead x ws zs (λ t. (g t).1) h) ∙ cond-swap x w (first_of test (ws ++ zs)) (λ t. (g t).0)
 
 -- where x has the number, no order of a line free of it has
-none_of : (n : ℕ) (x : Order) (s : Side) (xs : List Order) → Free x.number xs → numbered n x ≡ true → All (λ z. numbered n z ≡ false) (line s xs)
+none_of : (n : ℕ) (x : Order) (s : Side) (xs : List Order) → Free x.number xs → numbered n x ≡ true → AllByRecursion (λ z. numbered n z ≡ false) (line s xs)
 none_of n x s xs f t =
     All-weaker (λ z. z.number ≡ x.number → ⊥) (λ z. numbered n z ≡ false) (λ z ne. ne_eqb z.number n (λ e. ne (e ∙ sym (eqb-true x.number n t)))) (line s xs)
     (all-line (λ z. z.number ≡ x.number → ⊥) s xs f)
@@ -240,12 +240,12 @@ find-arranged n (x ∷ xs) h = ap (λ r. cond (numbered n x) (Some x) r) (find-a
 
 -- ---- the best of a scan
 
-first-all : {X : Type 0} (P : X → Type 0) (test : X → Bool) (xs : List X) → All P xs → (first_of test xs ≡ None) ⊎ ((y : X) × (first_of test xs ≡ Some y) × P y)
+first-all : {X : Type 0} (P : X → Type 0) (test : X → Bool) (xs : List X) → AllByRecursion P xs → (first_of test xs ≡ None) ⊎ ((y : X) × (first_of test xs ≡ Some y) × P y)
 first-all P test [] h = inl refl
 first-all P test (x ∷ xs) h =
     ⊎_elim (λ t. inr (x, (rw t refl), h.0)) (λ f. rw f (first-all P test xs h.1)) (cases_Bool (test x))
 
-beat-all : {X : Type 0} (ahead : X → X → Bool) (test : X → Bool) (x : X) (xs : List X) → All (λ y. ahead x y ≡ true) xs → beat ahead x (first_of test xs) ≡ Some x
+beat-all : {X : Type 0} (ahead : X → X → Bool) (test : X → Bool) (x : X) (xs : List X) → AllByRecursion (λ y. ahead x y ≡ true) xs → beat ahead x (first_of test xs) ≡ Some x
 beat-all ahead test x xs h =
     ⊎_elim
     (λ e. ap (beat ahead x) e)

@@ -1,6 +1,6 @@
 -- For code above any sheet, a walk along a side: the next order behind one, and an order taken out or replaced where it stands.
 use Rattle.std.proofs.Common.{◌≡◌, ℕ, ◌+◌, Bool, true, false, cond, not, List, [], ◌∷◌, ◌++◌, Some, None, filter, sym, refl, ap, ◌∙◌, subst, ⊎_elim}
-use Rattle.std.specs.List.{AllByRecursion as All}
+use Rattle.std.specs.List.{AllByRecursion}
 use Rattle.std.proofs.lemmas.Bool.{both_ways, cases_Bool, eq-eqb, cond-true, cond-false, not_from_true}
 use Rattle.std.proofs.lemmas.List.Elements.{filter-append}
 use Rattle.ordered.specs.Sorting.{insert_by, Sorted, first_of, some_of}
@@ -18,7 +18,7 @@ use Rattle.sheets.proofs.Tops.{side_laws, side_with, with_with}
 
 -- ---- the next one
 
-kept-all : {X : Type 0} (p : X → Bool) (xs : List X) → All (λ x. p x ≡ true) xs → filter p xs ≡ xs
+kept-all : {X : Type 0} (p : X → Bool) (xs : List X) → AllByRecursion (λ x. p x ≡ true) xs → filter p xs ≡ xs
 kept-all p [] h = refl
 kept-all p (x ∷ xs) h = rw h.0 (ap (λ ys. x ∷ ys) (kept-all p xs h.1))
 

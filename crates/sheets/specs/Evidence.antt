@@ -1,7 +1,7 @@
 -- That the two sheets keep the laws: the evidence that their ghost members `laws` and `stored` give. A reader need not follow it.
 use Rattle.std.specs.Prelude.{◌≡◌, ℕ, zero, suc, ◌^◌, Bool, true, false, cond, not, ◌&&◌, List, [], ◌∷◌, ◌++◌, length, take, filter, nat_le, nat_lt, refl}
 use Rattle.std.proofs.Common.{ap, ap₂, ◌∙◌, ⊎_elim}
-use Rattle.std.specs.List.{AllByRecursion as All}
+use Rattle.std.specs.List.{AllByRecursion}
 use Rattle.std.proofs.lemmas.List.{append-nil}
 use Rattle.std.proofs.lemmas.List.Elements.{filter-append}
 use Rattle.std.proofs.lemmas.Bool.{and_parts, ltb-true, leb-true, eq-eqb, not-true, both_ways, cases_Bool}
@@ -21,7 +21,7 @@ use Rattle.sheets.specs.Held.{held_by_priority, rows_by_priority, held_by_arriva
 -- ---- what the test tells
 
 -- each test of an element says a fact of it
-pub all_from : {X : Type 0} (test : X → Bool) (P : X → Type 0) → ((x : X) → test x ≡ true → P x) → (xs : List X) → all_of test xs ≡ true → All P xs
+pub all_from : {X : Type 0} (test : X → Bool) (P : X → Type 0) → ((x : X) → test x ≡ true → P x) → (xs : List X) → all_of test xs ≡ true → AllByRecursion P xs
 all_from test P says [] e = tt
 all_from test P says (x ∷ xs) e = let p = and_parts (test x) (all_of test xs) e in (says x p.0, all_from test P says xs p.1)
 
@@ -101,7 +101,7 @@ occupied-append (r ∷ rs) ts =
     [ true ↦ occupied-append rs ts | false ↦ ap (λ ys. r.order ∷ ys) (occupied-append rs ts) ]
 
 -- orders of one side
-kept-own : (v : Side) (xs : List Order) → All (λ o. o.side ≡ v) xs → filter (on v) xs ≡ xs
+kept-own : (v : Side) (xs : List Order) → AllByRecursion (λ o. o.side ≡ v) xs → filter (on v) xs ≡ xs
 kept-own v [] h = refl
 kept-own v (x ∷ xs) h = let t : on v x ≡ true = ap (same_side v) h.0 ∙ self v in rw t (ap (λ ys. x ∷ ys) (kept-own v xs h.1))
   where
@@ -110,7 +110,7 @@ kept-own v (x ∷ xs) h = let t : on v x ≡ true = ap (same_side v) h.0 ∙ sel
     self Offer = refl
 
 -- orders of the other side
-kept-other : (v w : Side) → same_side v w ≡ false → (xs : List Order) → All (λ o. o.side ≡ w) xs → filter (on v) xs ≡ []
+kept-other : (v w : Side) → same_side v w ≡ false → (xs : List Order) → AllByRecursion (λ o. o.side ≡ w) xs → filter (on v) xs ≡ []
 kept-other v w e [] h = refl
 kept-other v w e (x ∷ xs) h = let f : on v x ≡ false = ap (same_side v) h.0 ∙ e in rw f (kept-other v w e xs h.1)
 

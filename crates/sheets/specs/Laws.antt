@@ -1,6 +1,6 @@
 -- What holds of every sheet.
 use Rattle.std.specs.Prelude.{◌≡◌, ℕ, ◌^◌, ◌<◌, ◌≤◌, List, [], ◌∷◌, length, ◌≢◌}
-use Rattle.std.specs.List.{AllByRecursion as All}
+use Rattle.std.specs.List.{AllByRecursion}
 use Rattle.ordered.specs.Sorting.{Sorted}
 use Rattle.market.specs.declared.order.Order.{Order}
 use Rattle.market.specs.declared.order.Side.{Side}
@@ -9,7 +9,7 @@ use Rattle.sheets.specs.Sides.{Sides, standing, outranks}
 
 -- no order has number n
 abbrev pub Free : ℕ → List Order → Type 0
-Free n xs = All (λ o. o.number ≢ n) xs
+Free n xs = AllByRecursion (λ o. o.number ≢ n) xs
 
 -- no number twice
 abbrev pub Apart : List Order → Type 0
@@ -26,9 +26,9 @@ pub record Bounded (o : Order) : Type 0 where
 -- side v of a sheet of capacity n: at most n orders, all of that side, sorted by priority
 pub record LineLaws (v : Side) (n : ℕ) (xs : List Order) : Type 0 where
   pub fits : length xs ≤ n
-  pub sided : All (λ o. o.side ≡ v) xs
+  pub sided : AllByRecursion (λ o. o.side ≡ v) xs
   pub sorted : Sorted (outranks v) xs
-  pub bounded : All Bounded xs
+  pub bounded : AllByRecursion Bounded xs
 
 -- a sheet of capacity n, which is at most 2,048
 pub record SheetLaws (n : ℕ) (s : Sides) : Type 0 where

@@ -41,7 +41,7 @@ invariant_of-self c =
     let lawful : is_sheet s.capacity (arranged ys) ≡ true =
     ap (λ (zs : List Order). is_sheet s.capacity (arranged zs)) r.held ∙ ap (is_sheet s.capacity) (arranged-put o xs apart)
     ∙ tested s.capacity (put_in o (held_by_arrival s)) (put-lawful s.capacity o (held_by_arrival s) (arrival_laws s) small c.requires) in
-    (c.store.auto.rows ∙ s.both, (short, (rows-counted c.store.result c.store.new.rows short, (still, (lawful, tt)))))
+    record { both = c.store.auto.rows ∙ s.both; fits = short; counted = rows-counted c.store.result c.store.new.rows short; apart = still; lawful = lawful }
 
 pub returns : goal.returns
 returns c =

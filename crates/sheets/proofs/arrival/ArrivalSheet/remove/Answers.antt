@@ -47,7 +47,7 @@ invariant_of-self c =
     let lawful : is_sheet s.capacity (arranged (take (s.len - 1) c.remove_row-order.new.rows)) ≡ true =
     ap (λ (ys : List Order). is_sheet s.capacity (arranged ys)) left ∙ ap (is_sheet s.capacity) (arranged-take k xs apart)
     ∙ tested s.capacity (take_from k (held_by_arrival s)) (take-lawful s.capacity k (held_by_arrival s) (arrival_laws s)) in
-    (c.remove_row-order.auto.rows ∙ s.both, (omega (arith, s.fits, c.remove_row-order.auto.rows), (counts, (still, (lawful, tt)))))
+    record { both = c.remove_row-order.auto.rows ∙ s.both; fits = omega (arith, s.fits, c.remove_row-order.auto.rows); counted = counts; apart = still; lawful = lawful }
 
 pub returns : goal.returns
 returns c =

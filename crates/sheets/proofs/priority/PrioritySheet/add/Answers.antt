@@ -23,7 +23,13 @@ invariant_of-self c =
     let lt : s.buys.len < s.capacity = list-place Buy o s c.in-Buy.is c.requires.place in
     let at : length (of_side Buy (held_by_priority s)) < s.capacity = omega (arith, list_length Buy s) in
     let small : Bounded o = record { number = omega arith; price = omega arith; rank = omega arith; quantity = omega arith } in
-    (r.room ∙ s.buys_rows, (s.offers_rows, (omega (arith, r.more), (s.offers_fit, (still-added Buy s.capacity o (held_by_priority s) (held c.insert.new.self) c.in-Buy.is small c.requires.fresh at (priority_laws s) r.held, tt)))))
+    record {
+      buys_rows = r.room ∙ s.buys_rows;
+      offers_rows = s.offers_rows;
+      buys_fit = omega (arith, r.more);
+      offers_fit = s.offers_fit;
+      lawful = still-added Buy s.capacity o (held_by_priority s) (held c.insert.new.self) c.in-Buy.is small c.requires.fresh at (priority_laws s) r.held;
+    }
 
 pub insert-requires-in-Offer : goal.insert-requires-in-Offer
 insert-requires-in-Offer c =
@@ -39,4 +45,10 @@ invariant_of-self-in-Offer c =
     let lt : s.offers.len < s.capacity = list-place Offer o s c.in-Offer.is c.requires.place in
     let at : length (of_side Offer (held_by_priority s)) < s.capacity = omega (arith, list_length Offer s) in
     let small : Bounded o = record { number = omega arith; price = omega arith; rank = omega arith; quantity = omega arith } in
-    (s.buys_rows, (r.room ∙ s.offers_rows, (s.buys_fit, (omega (arith, r.more), (still-added Offer s.capacity o (held_by_priority s) (held c.insert-in-Offer.new.self) c.in-Offer.is small c.requires.fresh at (priority_laws s) r.held, tt)))))
+    record {
+      buys_rows = s.buys_rows;
+      offers_rows = r.room ∙ s.offers_rows;
+      buys_fit = s.buys_fit;
+      offers_fit = omega (arith, r.more);
+      lawful = still-added Offer s.capacity o (held_by_priority s) (held c.insert-in-Offer.new.self) c.in-Offer.is small c.requires.fresh at (priority_laws s) r.held;
+    }

@@ -20,19 +20,14 @@ invariant_of-self c =
     let k = c.args.number in
     let r = c.take_from.ensures in
     let after : sides_of (held c.take_from.new.list) (held s.offers) ≡ take_from k (held_by_priority s) =
-    taken-left k (held s.buys) (held s.offers) (held c.take_from.new.list) (priority_laws s).apart (first_some (numbered k) (held s.buys) c.in-Some.order c.in-Some.ensures.value) r.held in (
-      r.room ∙ s.buys_rows,
-      (
-        s.offers_rows,
-        (
-          omega (arith, r.len, s.buys_fit),
-          (
-            s.offers_fit,
-            (ap (is_sheet s.capacity) after ∙ tested s.capacity (take_from k (held_by_priority s)) (take-lawful s.capacity k (held_by_priority s) (priority_laws s)), tt),
-          ),
-        ),
-      ),
-    )
+    taken-left k (held s.buys) (held s.offers) (held c.take_from.new.list) (priority_laws s).apart (first_some (numbered k) (held s.buys) c.in-Some.order c.in-Some.ensures.value) r.held in
+    record {
+      buys_rows = r.room ∙ s.buys_rows;
+      offers_rows = s.offers_rows;
+      buys_fit = omega (arith, r.len, s.buys_fit);
+      offers_fit = s.offers_fit;
+      lawful = ap (is_sheet s.capacity) after ∙ tested s.capacity (take_from k (held_by_priority s)) (take-lawful s.capacity k (held_by_priority s) (priority_laws s));
+    }
 
 pub take_from-requires-in-None : goal.take_from-requires-in-None
 take_from-requires-in-None c = let s = c.args.self.now in record { fits = list-fits Offer s; apart = apart-right (held s.buys) (held s.offers) (priority_laws s).apart }
@@ -43,19 +38,14 @@ invariant_of-self-in-None c =
     let k = c.args.number in
     let r = c.take_from.ensures in
     let t = c.take_from-in-None.ensures in
-    let after : sides_of (held c.take_from.new.list) (held c.take_from-in-None.new.list) ≡ take_from k (held_by_priority s) = ap₂ sides_of r.held t.held in (
-      r.room ∙ s.buys_rows,
-      (
-        t.room ∙ s.offers_rows,
-        (
-          omega (arith, r.len, s.buys_fit),
-          (
-            omega (arith, t.len, s.offers_fit),
-            (ap (is_sheet s.capacity) after ∙ tested s.capacity (take_from k (held_by_priority s)) (take-lawful s.capacity k (held_by_priority s) (priority_laws s)), tt),
-          ),
-        ),
-      ),
-    )
+    let after : sides_of (held c.take_from.new.list) (held c.take_from-in-None.new.list) ≡ take_from k (held_by_priority s) = ap₂ sides_of r.held t.held in
+    record {
+      buys_rows = r.room ∙ s.buys_rows;
+      offers_rows = t.room ∙ s.offers_rows;
+      buys_fit = omega (arith, r.len, s.buys_fit);
+      offers_fit = omega (arith, t.len, s.offers_fit);
+      lawful = ap (is_sheet s.capacity) after ∙ tested s.capacity (take_from k (held_by_priority s)) (take-lawful s.capacity k (held_by_priority s) (priority_laws s));
+    }
 
 pub returns-in-Some : goal.returns-in-Some
 returns-in-Some c =
