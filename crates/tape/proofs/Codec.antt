@@ -1,5 +1,5 @@
 -- What is written is read back, and a record has one writing.
-use Rattle.std.proofs.Common.{◌≡◌, ℕ, ◌+◌, ◌*◌, ◌/◌, ◌%◌, ◌^◌, ◌<◌, ◌≤◌, Bool, true, false, cond, eqb, leb, List, [], ◌∷◌, ◌++◌, length, get_or, take, drop, Ok, Err, Result, sym, refl, ap, ◌∙◌, subst, arith, rules}
+use Rattle.std.proofs.Common.{◌≡◌, ℕ, ◌+◌, ◌*◌, ◌/◌, ◌%◌, ◌^◌, ◌<◌, ◌≤◌, Bool, true, false, cond, eqb, leb, List, [], ◌∷◌, ◌++◌, length, get_or, take, drop, Ok, Err, Result, sym, refl, ap, ◌∙◌, subst, arith}
 use native.Mathlib.Nat.{div-div-eq-div-mul}
 use Rattle.std.proofs.lemmas.List.{take_at, length-append, drop_more, drop-drop, take-append-drop}
 use Rattle.std.proofs.lemmas.Bool.Decides.{nat_tests}
@@ -9,7 +9,7 @@ use Rattle.market.specs.declared.order.Side.TheVariants.{Buy, Offer}
 use Rattle.market.specs.declared.order.Kind.{Kind}
 use Rattle.market.specs.declared.order.Kind.TheVariants.{Limit, Market}
 use Rattle.tape.specs.declared.fault.TapeFault.{TapeFault}
-use Rattle.tape.specs.declared.fault.TapeFault.TheVariants.{Truncated, UnlistedByte}
+use Rattle.tape.specs.declared.fault.TapeFault.TheVariants.{Truncated}
 use Rattle.tape.specs.Format.{Record, start, enter, withdraw, amend, encode, decode, width, side_byte, kind_byte, word, word_at, within, with_side, with_kind}
 
 -- a number of four bytes

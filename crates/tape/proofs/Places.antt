@@ -1,5 +1,5 @@
 -- A reading of what lies behind a place is a reading at that place.
-use Rattle.std.proofs.Common.{◌≡◌, ℕ, ◌+◌, ◌-◌, ◌≤◌, List, ◌++◌, length, take, drop, Ok, Err, sym, refl, ap, ◌∙◌, arith, Bor}
+use Rattle.std.proofs.Common.{◌≡◌, ℕ, ◌+◌, ◌-◌, ◌≤◌, List, ◌++◌, length, take, drop, Ok, Err, sym, ap, ◌∙◌, arith, Bor}
 use Rattle.std.proofs.lemmas.List.{drop-drop, length-drop, drop_all, length-append, take_at}
 use Rattle.tape.specs.declared.fault.TapeFault.TheVariants.{Truncated}
 use Rattle.tape.specs.declared.command.Command.{Command}

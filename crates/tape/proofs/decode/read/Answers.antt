@@ -1,7 +1,7 @@
-use Rattle.std.proofs.Common.{◌≡◌, ℕ, List, ◌++◌, drop, IfOk, Ok, Err, Result, sym, ap, ◌∙◌, arith, Bor}
+use Rattle.std.proofs.Common.{◌≡◌, ℕ, List, ◌++◌, IfOk, Ok, Err, Result, sym, ap, ◌∙◌, arith, Bor}
 use Rattle.tape.specs.declared.fault.TapeFault.{TapeFault}
 use Rattle.tape.specs.declared.command.Command.{Command}
-use Rattle.tape.specs.Format.{decode, encode, width}
+use Rattle.tape.specs.Format.{decode, encode}
 use Rattle.tape.specs.Views.{view, Taken}
 use Rattle.tape.proofs.Codec.{Bytes, one-writing}
 use Rattle.tape.proofs.decode.read.Goals as goal
