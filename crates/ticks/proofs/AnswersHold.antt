@@ -1,9 +1,8 @@
 -- The three answers in words.
-use Rattle.std.proofs.Common.{◌≡◌, ℕ, zero, suc, ◌<◌, ◌≤◌, Bool, true, false, cond, ◌||◌, eqb, ltb, List, [], ◌∷◌, length, get_or, Some, None, Ok, Err, Option, Result, sym, refl, ap, ◌∙◌, ⊎_elim, arith, MatchOption, MatchResult}
-use Rattle.std.proofs.lemmas.Bool.{cond-true, cond-false, cond_both, lt-ltb, le-ltb, ltb-true, ltb-false, eqb-true, eq-eqb, cases_lt, cases_order, or_cases, false≢true, both_ways}
+use Rattle.std.proofs.Common.{◌≡◌, ℕ, zero, suc, ◌<◌, ◌≤◌, Bool, true, false, cond, eqb, ltb, List, [], ◌∷◌, length, get_or, Some, None, Option, Result, sym, refl, ap, ◌∙◌, ⊎_elim, arith, MatchOption, MatchResult}
+use Rattle.std.proofs.lemmas.Bool.{cond-true, cond-false, cond_both, lt-ltb, le-ltb, ltb-true, ltb-false, eqb-true, cases_lt, cases_order, or_cases, false≢true, both_ways}
 use Rattle.ticks.specs.declared.rule.Cause.{Cause}
-use Rattle.ticks.specs.declared.rule.Cause.TheVariants.{BelowFloor, AboveCeiling, OffTick}
-use Rattle.ticks.specs.Ticks.{is_tick, admitted, first_above, last_below, or_else, Rising, Lawful}
+use Rattle.ticks.specs.Ticks.{is_tick, first_above, last_below, or_else, Rising}
 use Rattle.ticks.specs.Questions.{Tick, SmallestAbove, GreatestBelow, AboveIsSmallest, BelowIsGreatest, Tells, AdmitsInOrder}
 use Rattle.ticks.proofs.AtIndex.{is_tick-at}
 

@@ -1,5 +1,5 @@
 -- The questions on two lists in a row.
-use Rattle.std.proofs.Common.{◌≡◌, ℕ, Bool, true, false, cond, ◌||◌, eqb, ltb, List, [], ◌∷◌, ◌++◌, Some, None, Option, refl, ap, ◌∙◌}
+use Rattle.std.proofs.Common.{◌≡◌, ℕ, Bool, true, false, cond, ◌||◌, eqb, ltb, List, [], ◌∷◌, ◌++◌, Some, None, Option, refl, ap}
 use Rattle.ticks.specs.Ticks.{is_tick, first_above, last_below, or_else}
 
 -- the first answer, or the other where there is none

@@ -1,11 +1,11 @@
 -- The flat rule in words.
-use Rattle.std.proofs.Common.{◌≡◌, ℕ, ◌+◌, ◌-◌, ◌*◌, ◌<◌, ◌≤◌, Bool, true, false, cond, ltb, length, get_or, is_ok, Ok, Err, Result, sym, refl, ap, ◌∙◌, mul-zero, arith}
+use Rattle.std.proofs.Common.{◌≡◌, ℕ, ◌+◌, ◌-◌, ◌*◌, ◌<◌, Bool, true, false, cond, ltb, is_ok, Ok, Err, Result, sym, refl, ap, ◌∙◌, mul-zero, arith}
 use Rattle.std.proofs.lemmas.Bool.{cond-false, le-ltb, ltb-false, false≢true}
 use Rattle.ticks.specs.declared.flat.FlatFault.{FlatFault}
 use Rattle.ticks.specs.declared.flat.FlatFault.TheVariants.{FirstIsZero, StepIsZero, CountIsZero, TooManyTicks, LastTooHigh}
 use Rattle.ticks.specs.Ticks.{progression}
 use Rattle.ticks.specs.Flats.{Sound, flat_check}
-use Rattle.ticks.specs.FlatWords.{FlatConditions, OnFlat, FlatTicks, FlatLadder}
+use Rattle.ticks.specs.FlatWords.{FlatConditions, FlatLadder}
 use Rattle.ticks.specs.Evidence.{length-progression, slice_index-progression}
 use Rattle.ticks.proofs.AnswersHold.{tick-place}
 use Rattle.ticks.proofs.Progress.{tick-yes}

@@ -1,10 +1,8 @@
 -- Where a price lies among the ticks of a flat rule.
-use Rattle.std.proofs.Common.{◌≡◌, ℕ, ◌+◌, ◌-◌, ◌*◌, ◌/◌, ◌<◌, ◌≤◌, true, Some, None, sym, refl, ap, ◌∙◌, mul-le-mul_left, mul-add, arith}
+use Rattle.std.proofs.Common.{ℕ, ◌+◌, ◌-◌, ◌*◌, ◌/◌, ◌<◌, ◌≤◌, sym, refl, mul-le-mul_left, arith}
 use native.Mathlib.Nat.{lt_of_mul-lt-mul_left}
-use Rattle.ticks.specs.declared.row.Row.{Row}
-use Rattle.ticks.specs.declared.place.Place.{Place}
 use Rattle.ticks.specs.declared.place.Place.TheVariants.{Before, Within, Past}
-use Rattle.ticks.specs.Ticks.{is_tick, progression}
+use Rattle.ticks.specs.Ticks.{progression}
 use Rattle.ticks.specs.Flats.{Sound}
 use Rattle.ticks.specs.Places.{Placed}
 use Rattle.ticks.specs.Evidence.{at_place}

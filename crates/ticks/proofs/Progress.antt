@@ -1,6 +1,6 @@
 -- A row of numbers at equal distances: its places, and what the questions answer on it.
-use Rattle.std.proofs.Common.{◌≡◌, ℕ, zero, suc, ◌+◌, ◌-◌, ◌*◌, ◌/◌, ◌%◌, ◌<◌, ◌≤◌, Bool, true, false, List, [], ◌∷◌, length, get_or, Some, None, Option, sym, refl, ap, ◌∙◌, mod-lt, mul-le-mul_left, mul-zero, mul-suc, mul-add, arith}
-use native.Mathlib.Nat.{div-add-mod, mul-mod_right, lt_of_mul-lt-mul_left}
+use Rattle.std.proofs.Common.{◌≡◌, ℕ, ◌+◌, ◌-◌, ◌*◌, ◌/◌, ◌<◌, ◌≤◌, true, false, get_or, Some, None, ap, ◌∙◌, mod-lt, mul-le-mul_left, mul-zero, mul-add, arith}
+use native.Mathlib.Nat.{div-add-mod, lt_of_mul-lt-mul_left}
 use Rattle.ticks.specs.Ticks.{is_tick, first_above, last_below, progression}
 use Rattle.ticks.specs.Evidence.{length-progression, slice_index-progression, at_place}
 use Rattle.ticks.proofs.AtIndex.{first_above-at, first_above-none, last_below-at, last_below-none, is_tick-at, is_tick-none}

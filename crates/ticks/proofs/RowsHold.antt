@@ -4,16 +4,14 @@ use native.Mathlib.Nat.{div-add-mod, mul-mod_right}
 use Rattle.std.proofs.lemmas.Bool.{cond-false, le-ltb, lt-leb, eq-eqb, eqb-true, cases_lt, cases_eq, or_left, or_right, both_ways}
 use Rattle.std.proofs.lemmas.List.{at_drop_more, at_drop_all, length-append, get_or-append_right}
 use Rattle.ticks.specs.declared.row.Row.{Row}
-use Rattle.ticks.specs.declared.banded.fault.BandedFault.{BandedFault}
 use Rattle.ticks.specs.declared.banded.fault.BandedFault.TheVariants.{NoRows, TooManyRows, EndBelowStart, EndTooHigh, TooManyTicks}
 use Rattle.ticks.specs.Ticks.{is_tick, progression}
 use Rattle.ticks.specs.Questions.{Tick}
-use Rattle.ticks.specs.Rows.{start_of, stretch, ladder, blank, start_at, step_at, Checked, and_then, rows_check, distances_check, load_check, Ordered}
-use Rattle.ticks.specs.RowWords.{Conditions, LoadConditions, OnRow, RowTicks, RowLadder}
-use Rattle.ticks.specs.Evidence.{Chain, Found, row-passes, distance-passes, ordered, found, one, lawful_banded}
+use Rattle.ticks.specs.Rows.{start_of, stretch, ladder, blank, start_at, step_at, Checked, and_then, rows_check, distances_check, load_check}
+use Rattle.ticks.specs.RowWords.{Conditions, LoadConditions, OnRow, RowLadder}
+use Rattle.ticks.specs.Evidence.{Chain, row-passes, distance-passes, found, one, lawful_banded}
 use Rattle.ticks.proofs.Appends.{tick-append}
 use Rattle.ticks.proofs.Spans.{row-tick, here-tick, there_tick, tick-before, tick-end}
-use Rattle.ticks.proofs.Surveys.{step-some}
 
 -- an accepted load keeps every condition
 rising-rows : (i low : ℕ) (rs : List Row) → rows_check i low rs ≡ Ok tt → (j : ℕ) → suc j < length rs → start_at rs j < start_at rs (suc j)

@@ -1,5 +1,5 @@
 -- What the questions answer on the ticks of rows, and where a price lies there.
-use Rattle.std.proofs.Common.{◌≡◌, ℕ, zero, suc, ◌+◌, ◌-◌, ◌*◌, ◌/◌, ◌%◌, ◌<◌, ◌≤◌, Bool, true, false, cond, ◌||◌, eqb, ltb, leb, List, [], ◌∷◌, ◌++◌, length, get_or, is_ok, Some, None, Option, sym, refl, ap, ◌∙◌, ⊎_elim, mul-le-mul_left, mul-zero, mul-suc, mul-add, arith}
+use Rattle.std.proofs.Common.{◌≡◌, ℕ, zero, suc, ◌+◌, ◌-◌, ◌*◌, ◌/◌, ◌%◌, ◌<◌, ◌≤◌, true, false, ◌||◌, eqb, ltb, List, [], ◌∷◌, ◌++◌, is_ok, Some, None, sym, refl, ap, ◌∙◌, ⊎_elim, mul-le-mul_left, mul-zero, mul-add, arith}
 use native.Mathlib.Nat.{div-add-mod, lt_of_mul-lt-mul_left}
 use Rattle.std.proofs.lemmas.Bool.{cond-true, cond-false, lt-ltb, le-ltb, eq-eqb, ne_eqb, cases_lt, cases_eq, or_right}
 use Rattle.ticks.specs.Ticks.{is_tick, first_above, last_below, progression}
@@ -9,7 +9,6 @@ use Rattle.ticks.proofs.Progress.{above-mid, above-high as past_row, tick-yes, t
 use Rattle.ticks.specs.declared.row.Row.{Row}
 use Rattle.ticks.specs.Rows.{start_of, stretch, ladder, row_at, load_check, first_row}
 use Rattle.ticks.specs.Places.{Placed}
-use Rattle.ticks.specs.declared.place.Place.{Place}
 use Rattle.ticks.specs.declared.place.Place.TheVariants.{Before, Within, Past}
 use Rattle.ticks.specs.Evidence.{Chain, found, climbs, climbs-least, tops, start-end}
 use Rattle.ticks.proofs.Admits.{admit_before, admit_mid, admit_past}

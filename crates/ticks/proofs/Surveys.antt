@@ -1,9 +1,8 @@
 -- Loops over the rows: what is left to ask after each row.
-use Rattle.std.proofs.Common.{◌≡◌, ℕ, zero, suc, ◌+◌, ◌-◌, ◌/◌, ◌%◌, ◌<◌, ◌≤◌, Bool, true, false, cond, ltb, leb, List, [], ◌∷◌, ◌++◌, length, get_or, drop, Ok, Err, Result, sym, refl, ap, ◌∙◌, div-le_self, arith}
+use Rattle.std.proofs.Common.{◌≡◌, ℕ, zero, suc, ◌+◌, ◌-◌, ◌/◌, ◌%◌, ◌<◌, ◌≤◌, ltb, leb, List, [], ◌∷◌, length, get_or, drop, Ok, Err, sym, ap, ◌∙◌, div-le_self, arith}
 use Rattle.std.proofs.lemmas.Bool.{cond-true, cond-false, lt-ltb, le-ltb, le-leb, lt-leb}
 use Rattle.std.proofs.lemmas.List.{at_drop_more, at_drop_all, length-append}
 use Rattle.ticks.specs.declared.row.Row.{Row}
-use Rattle.ticks.specs.declared.banded.fault.BandedFault.{BandedFault}
 use Rattle.ticks.specs.declared.banded.fault.BandedFault.TheVariants.{StartNotRising, StepIsZero, UnevenDistance}
 use Rattle.ticks.specs.Rows.{start_of, stretch, ladder, row_at, blank, start_at, step_at, Checked, rows_check, distances_check, Ordered}
 use Rattle.ticks.specs.Evidence.{length-progression}

@@ -1,7 +1,7 @@
 -- Evidence that each rule is lawful. A trait's ghost member takes it from here, so it stands among the definitions;
 -- nothing in this file has to be believed.
-use Rattle.std.specs.Prelude.{◌≡◌, ℕ, zero, suc, ◌+◌, ◌-◌, ◌*◌, ◌/◌, ◌%◌, ◌<◌, ◌≤◌, min, max, Bool, true, false, cond, List, [], ◌∷◌, ◌++◌, length, is_ok, Ok, Err, Result, nat_le, nat_lt, slice_index, slice_index_or, refl}
-use Rattle.std.proofs.Common.{sym, ap, ◌∙◌, mul-zero, mul-suc, mul-add, mul-le-mul_left, arith}
+use Rattle.std.specs.Prelude.{◌≡◌, ℕ, zero, suc, ◌+◌, ◌-◌, ◌*◌, ◌/◌, ◌%◌, ◌<◌, ◌≤◌, min, max, Bool, true, false, cond, List, [], ◌∷◌, ◌++◌, length, is_ok, Ok, Err, nat_le, nat_lt, slice_index, slice_index_or, refl}
+use Rattle.std.proofs.Common.{ap, ◌∙◌, mul-zero, mul-suc, mul-add, mul-le-mul_left, arith}
 use Rattle.std.proofs.Math.Nat.{div-add-mod}
 use Rattle.std.proofs.lemmas.Bool.{ltb-false, leb-false, false≢true}
 use Rattle.ticks.specs.declared.row.Row.{Row}
@@ -9,7 +9,7 @@ use Rattle.ticks.specs.declared.banded.fault.BandedFault.{BandedFault}
 use Rattle.ticks.specs.declared.banded.fault.BandedFault.TheVariants.{NoRows, TooManyRows, StartNotRising, StepIsZero, EndBelowStart, EndTooHigh, UnevenDistance, TooManyTicks}
 use Rattle.ticks.specs.Ticks.{progression, Lawful, Rising}
 use Rattle.ticks.specs.Flats.{Sound}
-use Rattle.ticks.specs.Rows.{start_of, stretch, ladder, start_at, Checked, and_then, rows_check, distances_check, load_check, Ordered}
+use Rattle.ticks.specs.Rows.{start_of, ladder, start_at, Checked, and_then, rows_check, distances_check, load_check, Ordered}
 
 -- a progression, place by place
 pub length-progression : (a s n : ℕ) → length (progression a s n) ≡ n

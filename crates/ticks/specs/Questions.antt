@@ -1,5 +1,5 @@
 -- The three answers in words, for every lawful rule and every price.
-use Rattle.std.specs.Prelude.{◌≡◌, ℕ, ◌<◌, ◌≤◌, true, false, List, MatchOption, MatchResult}
+use Rattle.std.specs.Prelude.{◌≡◌, ℕ, ◌<◌, ◌≤◌, true, List, MatchOption, MatchResult}
 use Rattle.ticks.specs.declared.rule.Cause.{Cause}
 use Rattle.ticks.specs.declared.rule.Cause.TheVariants.{BelowFloor, AboveCeiling, OffTick}
 use Rattle.ticks.specs.Ticks.{is_tick, admitted, first_above, last_below, Lawful}
