@@ -7,12 +7,16 @@ ghost use Rattle.tape_list.specs.Listing.{Listing, Listed, Holds, line, lines};
 
 use crate::end::End;
 use crate::words::Words;
-use std::alloc::Global;
-use std::fmt;
+use std::alloc::{AllocError, Global};
 use tape::{Command, Reader, tape_from};
 
 // Adds the line of one command.
-fn add_line(text: &mut String, count: usize, place: usize, command: Command<'_>) -> fmt::Result
+fn add_line(
+    text: &mut String,
+    count: usize,
+    place: usize,
+    command: Command<'_>,
+) -> Result<(), AllocError>
     ensures { OnOk result (string_bytes text.new ≡ string_bytes text.old ++ line count place (view command.entry)) }
 {
     let words = Words(command);
@@ -20,14 +24,14 @@ fn add_line(text: &mut String, count: usize, place: usize, command: Command<'_>)
 }
 
 // Adds the last line.
-fn add_end(text: &mut String, end: End) -> fmt::Result
+fn add_end(text: &mut String, end: End) -> Result<(), AllocError>
     ensures { OnOk result (string_bytes text.new ≡ string_bytes text.old ++ (closing end ++ (10 ∷ []))) }
 {
     writeln!(text, "{end}")
 }
 
 // Adds a line for each command of the tape, up to its end or its first fault.
-fn add_lines(text: &mut String, tape: &[u8]) -> Result<End, fmt::Error>
+fn add_lines(text: &mut String, tape: &[u8]) -> Result<End, AllocError>
     ensures { IfOk result (λ end. (cs : List Record) × Holds tape.now cs end × (string_bytes text.new ≡ string_bytes text.old ++ lines 1 0 cs)) }
 {
     let mut reader = Reader::new(tape);
@@ -54,7 +58,7 @@ fn add_lines(text: &mut String, tape: &[u8]) -> Result<End, fmt::Error>
 }
 
 // The same of a tape of any length. One that is too long has no line, and its fault at the front.
-fn add_tape(text: &mut String, tape: &[u8]) -> Result<End, fmt::Error>
+fn add_tape(text: &mut String, tape: &[u8]) -> Result<End, AllocError>
     ensures { IfOk result (λ end. (cs : List Record) × Listed tape.now cs end × (string_bytes text.new ≡ string_bytes text.old ++ lines 1 0 cs)) }
 {
     match tape_from(tape, 0) {
@@ -68,7 +72,7 @@ fn add_tape(text: &mut String, tape: &[u8]) -> Result<End, fmt::Error>
 }
 
 /// The listing of a tape: a line for each command, and a last line that says how the tape ends.
-pub fn listing(heap: Global, tape: &[u8]) -> Result<String, fmt::Error>
+pub fn listing(heap: Global, tape: &[u8]) -> Result<String, AllocError>
     ensures { IfOk result (λ text. Listing tape.now (string_bytes text)) }
 {
     let mut text = String::new(heap);

@@ -23,7 +23,7 @@ commands-preserved c =
         subst (λ (j : ℕ). Stand c.args.tape.now 0 (was.0 ++ k ∷ []) j) (sym step.3) (stand-push c.args.tape.now 0 was.0 at k was.1 reads),
         ap (λ n. n + 1) was.2 ∙ sym (length_push was.0 k),
         text-push c.args.tape.now (string_bytes c.args.text.now) (string_bytes c.commands.text) _ was.0 at c.commands.count k was.1 was.2 was.3
-            (c.in_ok-add_line.ensures ∙ ap (λ p. string_bytes c.commands.text ++ line (c.commands.count + 1) p k) c.place-place.ensures),
+            (c.in_ok-add_line-in-Ok-Some.ensures ∙ ap (λ p. string_bytes c.commands.text ++ line (c.commands.count + 1) p k) c.place-place.ensures),
       ),
     )
 
