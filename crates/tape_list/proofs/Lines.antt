@@ -1,5 +1,5 @@
 -- One line more in a listing.
-use Rattle.std.proofs.Common.{◌≡◌, ℕ, ◌+◌, List, [], ◌∷◌, ◌++◌, length, sym, refl, ap, ◌∙◌, append_assoc, append-nil, arith}
+use Rattle.std.proofs.Common.{◌≡◌, ℕ, ◌+◌, List, [], ◌∷◌, ◌++◌, length, sym, ap, ◌∙◌, append_assoc, append-nil, arith}
 use Rattle.tape.specs.Format.{Record, width}
 use Rattle.tape.specs.Sequence.{Stand}
 use Rattle.tape_list.specs.Listing.{line, lines}

@@ -1,6 +1,6 @@
 use Rattle.std.proofs.Common.{◌≡◌, ℕ, ◌+◌, List, [], ◌∷◌, ◌++◌, length, drop, Some, None, Ok, Err, string_bytes, sym, ap, ◌∙◌, subst, arith, rules}
 use Rattle.std.proofs.lemmas.List.{length_push}
-use Rattle.tape.specs.Format.{decode, width}
+use Rattle.tape.specs.Format.{decode}
 use Rattle.tape.specs.Views.{view, Steps}
 use Rattle.tape.specs.Sequence.{Stand, Ends}
 use Rattle.tape.proofs.Sequence.{stand-push, width_some}

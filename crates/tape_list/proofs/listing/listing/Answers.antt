@@ -1,4 +1,4 @@
-use Rattle.std.proofs.Common.{◌≡◌, [], ◌∷◌, ◌++◌, ap, ◌∙◌}
+use Rattle.std.proofs.Common.{[], ◌∷◌, ◌++◌, ap, ◌∙◌}
 use Rattle.tape_list.specs.Closing.{closing}
 use Rattle.tape_list.specs.Listing.{lines}
 use Rattle.tape_list.proofs.listing.listing.Goals as goal
