@@ -1,5 +1,5 @@
 -- The rows of a sheet: an emptied one has only spare rows, and none gets more or fewer.
-use Rattle.std.proofs.Common.{◌≡◌, ℕ, suc, ◌+◌, Bool, true, false, cond, List, [], ◌∷◌, length, Ok, Err, MatchBool, filter, Result, sym, refl, ap, ◌∙◌, arith}
+use Rattle.std.proofs.Common.{◌≡◌, ℕ, suc, Bool, true, false, cond, List, [], ◌∷◌, length, Ok, Err, MatchBool, filter, Result, refl, ap, ◌∙◌, arith}
 use Rattle.std.specs.List.{AllZip, AllByRecursion}
 use Rattle.ordered.specs.Sorting.{sort_by, insert_by}
 use Rattle.market.specs.declared.order.Order.{Order}

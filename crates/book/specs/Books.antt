@@ -1,6 +1,5 @@
 -- What a book's fields mean: its setting and its state, and what a call leaves of the sheet's rows.
-use Rattle.std.specs.Prelude.{◌≡◌, ℕ, List, Ok, Err, Option, Result}
-use Rattle.sheets.specs.Sides.{Sides}
+use Rattle.std.specs.Prelude.{◌≡◌, List, Ok, Err, Option, Result}
 use Rattle.sheets.specs.Rows.{Row, SpareRowsKept}
 use Rattle.calls.specs.declared.call.Answer.{Answer}
 use Rattle.calls.specs.declared.call.Answer.TheVariants.{Started, Entered, Withdrawn, Amended, Shown}

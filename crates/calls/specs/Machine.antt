@@ -7,7 +7,7 @@ use Rattle.market.specs.declared.order.Order.{Order}
 use Rattle.ticks.specs.declared.rule.Cause.{Cause}
 use Rattle.ticks.specs.Causes.{letter_of}
 use Rattle.ticks.specs.Ticks.{admitted}
-use Rattle.sheets.specs.Sides.{Sides, find_in, take_from, put_in, full}
+use Rattle.sheets.specs.Sides.{find_in, take_from, put_in, full}
 use Rattle.calls.specs.declared.call.Phase.{Phase}
 use Rattle.calls.specs.declared.call.Phase.TheVariants.{Shut, Calling}
 use Rattle.calls.specs.declared.call.Call.{Call}

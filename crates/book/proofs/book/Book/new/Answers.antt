@@ -1,6 +1,5 @@
 use Rattle.std.proofs.Common.{None, refl, ap}
 use Rattle.calls.specs.declared.call.Phase.TheVariants.{Shut}
-use Rattle.calls.specs.State.{State}
 use Rattle.sheets.specs.Sides.{Sides}
 use Rattle.book.proofs.Clears.{all-spare}
 use Rattle.book.proofs.book.Book.new.Goals as goal
