@@ -1,5 +1,5 @@
 -- A run on its way, and one command more.
-use Rattle.std.proofs.Common.{◌≡◌, ℕ, ◌+◌, ◌≤◌, List, [], ◌∷◌, ◌++◌, map, length, IfOk, Some, None, Ok, Err, Option, Result, sym, refl, ap, ◌∙◌, subst, arith}
+use Rattle.std.proofs.Common.{◌≡◌, ℕ, ◌+◌, ◌≤◌, List, [], ◌∷◌, ◌++◌, map, length, IfOk, Some, Ok, Err, Option, Result, sym, refl, ap, ◌∙◌, subst, arith}
 use Rattle.std.proofs.lemmas.List.{map-append, length_push}
 use Rattle.ticks.specs.declared.rule.TickRule as TickRule
 use Rattle.sheets.specs.declared.sheet.OrderSheet as OrderSheet
@@ -10,10 +10,10 @@ use Rattle.calls.specs.declared.call.Answer.{Answer}
 use Rattle.calls.specs.declared.call.Call.{Call}
 use Rattle.calls.specs.declared.refusal.Refusal.{Refusal}
 use Rattle.calls.specs.Listed.{Listed, refusal_in, told}
-use Rattle.calls.specs.State.{Rule, Setting, State}
+use Rattle.calls.specs.State.{Setting, State}
 use Rattle.calls.specs.Machine.{unless, reply, next, replies, next_all}
 use Rattle.book.specs.declared.book.Book.{Book}
-use Rattle.book.specs.Books.{rule_of, setting_of, state_of, Takes}
+use Rattle.book.specs.Books.{rule_of, setting_of, state_of}
 use Rattle.book.proofs.Clears.{as_many_left}
 use Rattle.opening.specs.Calls.{call_of}
 use Rattle.opening.specs.Steps.{Advanced}

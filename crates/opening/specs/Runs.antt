@@ -1,14 +1,11 @@
 -- What a run over a tape does to a book.
-use Rattle.std.specs.Prelude.{◌≡◌, ℕ, ◌+◌, List, [], ◌∷◌, map, length, Some, None, Ok, Err, Option, Result}
+use Rattle.std.specs.Prelude.{◌≡◌, ℕ, ◌+◌, List, [], ◌∷◌, map, length, Some, None, Ok, Err, Result}
 use Rattle.ticks.specs.declared.rule.TickRule as TickRule
 use Rattle.sheets.specs.declared.sheet.OrderSheet as OrderSheet
-use Rattle.tape.specs.declared.fault.TapeFault.{TapeFault}
 use Rattle.tape.specs.Format.{Record}
 use Rattle.tape.specs.Sequence.{Stand, Ends}
 use Rattle.calls.specs.declared.call.Answer.{Answer}
-use Rattle.calls.specs.declared.call.Call.{Call}
 use Rattle.calls.specs.Listed.{Listed}
-use Rattle.calls.specs.State.{Setting, State}
 use Rattle.calls.specs.Machine.{replies, next_all}
 use Rattle.book.specs.declared.book.Book.{Book}
 use Rattle.book.specs.Books.{setting_of, state_of}

@@ -1,4 +1,4 @@
-use Rattle.std.proofs.Common.{◌≡◌, Some, Ok, rules}
+use Rattle.std.proofs.Common.{Some, Ok, rules}
 use Rattle.tape.specs.Views.{view, Steps}
 use Rattle.opening.proofs.Accounts.{account-read}
 use Rattle.opening.proofs.commands.advance.Goals as goal

@@ -1,4 +1,4 @@
-use Rattle.std.proofs.Common.{ℕ, ◌+◌, List, [], ◌∷◌, ◌++◌, Some, Ok, sym, refl, ap, ◌∙◌, subst, arith, rules}
+use Rattle.std.proofs.Common.{ℕ, ◌+◌, List, [], ◌∷◌, ◌++◌, length, Some, Ok, sym, refl, ap, ◌∙◌, subst, arith}
 use Rattle.calls.specs.Listed.{told}
 use Rattle.opening.specs.Runs.{yes_of, no_of}
 use Rattle.opening.specs.Steps.{Advanced}
@@ -25,7 +25,7 @@ commands-preserved g c =
     let sheets = g.S.OrderSheet in
     let said = c.in-Ok-Some.said in
     let was = c.commands.invariant.1 in
-    let step : Advanced rules sheets r.tape.now r.place c.commands.book (Ok (Some said)) c.advance.new.reader.place c.advance.new.book = search rules in
+    let step : Advanced rules sheets r.tape.now r.place c.commands.book (Ok (Some said)) c.advance.new.reader.place c.advance.new.book = rw c.in-Ok-Some.field-0-is at c.in-Ok-Some.ensures.step in
     let here = subst (λ (t : List ℕ). Advanced rules sheets t r.place c.commands.book (Ok (Some said)) c.advance.new.reader.place c.advance.new.book) c.commands.invariant.0 step in (
       ap (λ x. x.now) c.advance.ensures.tape ∙ c.commands.invariant.0,
       (
