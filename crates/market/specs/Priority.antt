@@ -1,5 +1,7 @@
 -- Which of two orders of a side comes first.
 use Rattle.std.specs.Prelude.{ℕ, Bool, true, false, cond, nat_lt}
+use Rattle.std.specs.declared.cmp.Ordering.{Ordering}
+use Rattle.std.specs.Ordering.{nat_cmp}
 use Rattle.market.specs.declared.order.Kind.{Kind}
 use Rattle.market.specs.declared.order.Kind.TheVariants.{Limit, Market}
 use Rattle.market.specs.declared.order.Side.{Side}
@@ -20,6 +22,11 @@ level Limit = 1
 abbrev pub better : Side → ℕ → ℕ → Bool → Bool
 better Buy p q next = first q p next
 better Offer p q next = first p q next
+
+-- the same as an order of prices
+abbrev pub compare_prices : Side → ℕ → ℕ → Ordering
+compare_prices Buy p q = nat_cmp q p
+compare_prices Offer p q = nat_cmp p q
 
 -- market before limit, then the better price, then the lower rank, then the lower number
 abbrev pub leads : Side → Priority → Priority → Bool

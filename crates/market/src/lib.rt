@@ -4,5 +4,5 @@ pub mod limits;
 mod order;
 mod priority;
 
-pub use order::{Kind, Order, Side};
+pub use order::{Kind, Order, Side, Terms};
 pub use priority::Priority;

@@ -1,10 +1,11 @@
 // Who comes first on a side.
 ghost use Rattle.std.specs.Prelude.{◌≡◌, ℕ, ◌<◌, Bool, true, false};
-ghost use Rattle.market.specs.Priority.{leads, priority_of};
+ghost use Rattle.market.specs.Priority.{compare_prices, leads, priority_of};
 ghost use Rattle.market.specs.Ranked.{leads-irreflexive, leads-transitive, leads-total};
 
 use crate::order::{Kind, Order, Side};
 use ordered::Ranking;
+use std::cmp::Ordering;
 
 /// What decides an order's place in its side's queue.
 #[derive(Clone, Copy, PartialEq, Eq, Debug)]
@@ -33,21 +34,23 @@ impl Side {
     pub fn leads(&self, first: &Priority, second: &Priority) -> bool
         ensures { result ≡ leads self.now first.now second.now }
     {
-        match (first.kind, second.kind) {
-            (Kind::Market, Kind::Limit) => return true,
-            (Kind::Limit, Kind::Market) => return false,
-            _ => {}
+        first
+            .kind
+            .cmp(&second.kind)
+            .then(self.compare_prices(first.price, second.price))
+            .then(first.rank.cmp(&second.rank))
+            .then(first.number.cmp(&second.number))
+            .is_lt()
+    }
+
+    // The better price is the less.
+    fn compare_prices(&self, first: u32, second: u32) -> Ordering
+        ensures { result ≡ compare_prices self.now first second }
+    {
+        match self {
+            Side::Buy => second.cmp(&first),
+            Side::Offer => first.cmp(&second),
         }
-        if first.price != second.price {
-            return match self {
-                Side::Buy => first.price > second.price,
-                Side::Offer => first.price < second.price,
-            };
-        }
-        if first.rank != second.rank {
-            return first.rank < second.rank;
-        }
-        first.number < second.number
     }
 }
 
