@@ -54,7 +54,9 @@ impl Side {
     }
 }
 
-impl Ranking<Order, Priority> for Side {
+impl Ranking<Order> for Side {
+    type Key = Priority;
+
     ghost key_of = { λ _ o. priority_of o };
 
     ghost ahead = { leads };

@@ -1,3 +1,4 @@
 pub mod Sorts
 pub mod Commutes
-pub mod Indexes
+pub mod Edits
+pub mod Searches

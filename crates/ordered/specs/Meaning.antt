@@ -1,15 +1,14 @@
--- What an ordered list over lent rows holds.
-use Rattle.std.specs.Prelude.{◌≡◌, List, take, drop}
+-- What an ordered list holds.
+use Rattle.std.specs.Prelude.{List}
+use Rattle.ordered.specs.declared.ranking.Ranking as Ranking
+use Rattle.ordered.specs.declared.lent.LentList.{LentList}
 use Rattle.ordered.specs.declared.list.OrderedList.{OrderedList}
+use Rattle.ordered.specs.Lent.{entries}
 
--- the entries, in order
-abbrev pub held : {E : Type 0} → OrderedList E → List E
-held l = take l.len l.rows.now
+-- its rows
+abbrev pub lent : {E R K : Type 0} {ranking : Ranking.Ghosts R E K} → OrderedList E R K ranking → LentList E
+lent l = l.list
 
--- the rows without an entry
-abbrev pub spare : {E : Type 0} → OrderedList E → List E
-spare l = drop l.len l.rows.now
-
--- every row that is spare afterwards is as it was before
-abbrev pub SpareKept : {E : Type 0} → OrderedList E → OrderedList E → Type 0
-SpareKept before after = spare after ≡ drop after.len before.rows.now
+-- its entries, in order
+abbrev pub held : {E R K : Type 0} {ranking : Ranking.Ghosts R E K} → OrderedList E R K ranking → List E
+held l = entries l.list

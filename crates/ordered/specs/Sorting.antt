@@ -1,7 +1,6 @@
 -- Lists kept in the order of a test.
-use Rattle.std.specs.Prelude.{◌≡◌, ℕ, suc, Bool, true, false, cond, List, [], ◌∷◌, Some, None, Option}
-use Rattle.std.specs.Option.{option_map}
-use Rattle.std.specs.List.{AllByRecursion}
+use Rattle.std.specs.Prelude.{◌≡◌, Bool, true, cond, not, ◌&&◌, List, [], ◌∷◌}
+use Rattle.std.specs.List.{AllByRecursion, list_all}
 
 -- entries in the order of their keys
 abbrev pub ranked : {E K : Type 0} → (K → K → Bool) → (E → K) → E → E → Bool
@@ -17,20 +16,10 @@ abbrev pub Sorted : {E : Type 0} → (E → E → Bool) → List E → Type 0
 Sorted ahead [] = Unit {0}
 Sorted ahead (x ∷ xs) = AllByRecursion (λ y. ahead x y ≡ true) xs × Sorted ahead xs
 
--- whether some entry passes the test
-abbrev pub some_of : {E : Type 0} → (E → Bool) → List E → Bool
-some_of test [] = false
-some_of test (x ∷ xs) = cond (test x) true (some_of test xs)
-
--- the first entry that passes the test
-abbrev pub first_of : {E : Type 0} → (E → Bool) → List E → Option E
-first_of test [] = None
-first_of test (x ∷ xs) = cond (test x) (Some x) (first_of test xs)
-
--- the index of that entry
-abbrev pub index_of : {E : Type 0} → (E → Bool) → List E → Option ℕ
-index_of test [] = None
-index_of test (x ∷ xs) = cond (test x) (Some 0) (option_map suc (index_of test xs))
+-- whether no entry is ahead of one before it
+abbrev pub in_order : {E : Type 0} → (E → E → Bool) → List E → Bool
+in_order ahead [] = true
+in_order ahead (x ∷ xs) = list_all (λ y. not (ahead y x)) xs && in_order ahead xs
 
 -- the entries in the order of the test
 abbrev pub sort_by : {E : Type 0} → (E → E → Bool) → List E → List E

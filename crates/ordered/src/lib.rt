@@ -1,10 +1,9 @@
 #![tactic(auto)]
-// Entries kept in the order of a ranking, over lent rows.
+// Entries in lent rows: as they are put, or in the order of a ranking.
+mod lent;
 mod list;
-mod predicate;
 mod ranking;
-pub mod rows;
 
+pub use lent::LentList;
 pub use list::OrderedList;
-pub use predicate::Predicate;
 pub use ranking::Ranking;

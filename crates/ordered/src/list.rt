@@ -1,88 +1,108 @@
 // One ordered list for every kind of entry whose keys are totally ordered.
-ghost use Rattle.std.specs.Prelude.{◌≡◌, ◌+◌, ◌<◌, ◌≤◌, Bool, true, length, ◌≢◌, slice_index_or};
-ghost use Rattle.std.specs.List.{remove, AllByRecursion};
-ghost use Rattle.ordered.specs.Sorting.{ranked, insert_by, Sorted, first_of, index_of};
-ghost use Rattle.ordered.specs.Meaning.{held, SpareKept};
+ghost use Rattle.std.specs.Prelude.{◌≡◌, ℕ, ◌+◌, ◌<◌, ◌≤◌, Bool, true, false, not, [], ◌≢◌, length, slice_index_or, find, position, remove};
+ghost use Rattle.std.specs.Fn.{ComputesKey};
+ghost use Rattle.std.specs.List.{AllByRecursion};
+ghost use Rattle.ordered.specs.Lent.{entries};
+ghost use Rattle.ordered.specs.Sorting.{ranked, insert_by, in_order, Sorted};
 
-use crate::predicate::Predicate;
+use crate::lent::LentList;
 use crate::ranking::Ranking;
-use crate::rows::{find, first_row, insert_row, position, remove_row, row_behind};
 
-/// Entries in the order of a ranking, over lent rows: the first `len` rows hold them, and the rows
-/// past those are spare.
+/// Entries in lent rows in the order of a ranking: none is ahead of one before it.
 #[derive(Drop)]
-pub struct OrderedList<'a, E> {
-    pub rows: &'a mut [E],
-    pub len: usize,
+pub struct OrderedList<'a, E, R: Ranking<E>> {
+    list: LentList<'a, E>,
+    ranking: R,
+    ghost ordered: { in_order (ranked (R.Ranking.ahead ranking) (R.Ranking.key_of ranking)) (entries list) ≡ true },
 }
 
-impl<'a, E: Copy> OrderedList<'a, E> {
-    /// Puts an entry in its place, behind those of its own key. Every row that is spare afterwards is
-    /// as it was.
-    pub fn insert<K: Drop, R: Ranking<E, K>>(&mut self, ranking: &R, entry: E)
-        requires fits { self.old.len < length self.old.rows.now }
-        requires sorted { Sorted (ranked (R.Ranking.ahead ranking.now) (R.Ranking.key_of ranking.now)) (held self.old) }
-        ensures held { held self.new ≡ insert_by (ranked (R.Ranking.ahead ranking.now) (R.Ranking.key_of ranking.now)) entry (held self.old) }
-        ensures sorted { AllByRecursion (λ x. R.Ranking.key_of ranking.now x ≢ R.Ranking.key_of ranking.now entry) (held self.old) → Sorted (ranked (R.Ranking.ahead ranking.now) (R.Ranking.key_of ranking.now)) (held self.new) }
-        ensures more { self.new.len ≡ self.old.len + 1 }
-        ensures room { length self.new.rows.now ≡ length self.old.rows.now }
-        ensures spare { SpareKept self.old self.new }
+impl<'a, E: Copy, R: Ranking<E>> OrderedList<'a, E, R> {
+    ghost use Rattle.ordered.specs.Meaning.{held, lent};
+    ghost use Rattle.ordered.specs.Lent.{size, SpareKept};
+
+    /// An empty list, whatever the rows hold.
+    pub fn new(rows: &'a mut [E], ranking: R) -> OrderedList<'a, E, R>
+        ensures held { held result ≡ [] }
+        ensures rows { (lent result).rows.now ≡ rows.old }
+        ensures ranking { result.ranking ≡ ranking }
     {
-        let OrderedList { rows, len } = self;
-        let n = *len;
-        insert_row(ranking, rows, n, entry);
-        *len = n + 1;
+        OrderedList {
+            list: LentList::new(rows),
+            ranking,
+        }
     }
 
-    /// Takes out the entry at `at`; what was in order stays so. Every row that is spare afterwards is
-    /// as it was: the one set free keeps the entry that was the last.
+    /// The entries, in order.
+    pub fn as_slice(&self) -> &[E]
+        ensures { result.now ≡ held self.now }
+    {
+        self.list.as_slice()
+    }
+
+    /// Puts an entry in its place, behind those of its own key.
+    pub fn insert(&mut self, entry: E)
+        requires { length (held self.old) < size (lent self.old) }
+        ensures held { held self.new ≡ insert_by (ranked (R.Ranking.ahead self.old.ranking) (R.Ranking.key_of self.old.ranking)) entry (held self.old) }
+        ensures sorted { AllByRecursion (λ x. R.Ranking.key_of self.old.ranking x ≢ R.Ranking.key_of self.old.ranking entry) (held self.old) → Sorted (ranked (R.Ranking.ahead self.old.ranking) (R.Ranking.key_of self.old.ranking)) (held self.old) → Sorted (ranked (R.Ranking.ahead self.old.ranking) (R.Ranking.key_of self.old.ranking)) (held self.new) }
+        ensures ranking { self.new.ranking ≡ self.old.ranking }
+        ensures size { size (lent self.new) ≡ size (lent self.old) }
+        ensures spare { SpareKept (lent self.old) (lent self.new) }
+    {
+        let at = self.place(&self.ranking.key(&entry));
+        self.list.insert(at, entry);
+    }
+
+    /// Takes out the entry at `at`; what was in order stays so.
     pub fn remove(&mut self, at: usize) -> E
-        requires fits { self.old.len ≤ length self.old.rows.now }
-        requires within { at < self.old.len }
-        ensures value { (d : E) → result ≡ slice_index_or self.old.rows.now at d }
+        requires { at < length (held self.old) }
+        ensures value { (d : E) → result ≡ slice_index_or (held self.old) at d }
         ensures held { held self.new ≡ remove (held self.old) at }
         ensures sorted { (order : E → E → Bool) → Sorted order (held self.old) → Sorted order (held self.new) }
-        ensures fewer { self.new.len + 1 ≡ self.old.len }
-        ensures room { length self.new.rows.now ≡ length self.old.rows.now }
-        ensures spare { SpareKept self.old self.new }
+        ensures ranking { self.new.ranking ≡ self.old.ranking }
+        ensures size { size (lent self.new) ≡ size (lent self.old) }
+        ensures spare { SpareKept (lent self.old) (lent self.new) }
     {
-        let OrderedList { rows, len } = self;
-        let n = *len;
-        let entry = remove_row(rows, at, n);
-        *len = n - 1;
-        entry
+        self.list.remove(at)
     }
 
     /// The index of the first entry that passes the test.
-    pub fn position<T: Predicate<E>>(&self, test: &T) -> Option<usize>
-        requires { self.now.len ≤ length self.now.rows.now }
-        ensures { result ≡ index_of (T.Predicate.passes test.now) (held self.now) }
+    pub fn position<F: Fn(&E) -> bool>(&self, test: F) -> Option<usize>
+        requires { F.IsAlwaysCallable test }
+        ensures { (passes : E → Bool) → ComputesKey F.FnMut passes test → result ≡ position passes (held self.now) }
     {
-        position(self.rows, self.len, test)
+        self.as_slice().iter().position(test)
     }
 
     /// The first entry that passes the test.
-    pub fn find<T: Predicate<E>>(&self, test: &T) -> Option<E>
-        requires { self.now.len ≤ length self.now.rows.now }
-        ensures { result ≡ first_of (T.Predicate.passes test.now) (held self.now) }
+    pub fn find<F: Fn(&E) -> bool>(&self, test: F) -> Option<E>
+        requires { F.IsAlwaysCallable test }
+        ensures { (passes : E → Bool) → ComputesKey F.FnMut passes test → result ≡ find passes (held self.now) }
     {
-        find(self.rows, self.len, test)
+        self.as_slice().iter().copied().find(test)
     }
 
     /// The first entry.
     pub fn first(&self) -> Option<E>
-        requires { self.now.len ≤ length self.now.rows.now }
-        ensures { result ≡ first_of (λ _. true) (held self.now) }
+        ensures { result ≡ find (λ _. true) (held self.now) }
     {
-        first_row(self.rows, self.len)
+        self.as_slice().first().copied()
     }
 
     /// The first entry that the key comes before: by halving.
-    pub fn first_behind<K: Drop, R: Ranking<E, K>>(&self, ranking: &R, key: &K) -> Option<E>
-        requires fits { self.now.len ≤ length self.now.rows.now }
-        requires sorted { Sorted (ranked (R.Ranking.ahead ranking.now) (R.Ranking.key_of ranking.now)) (held self.now) }
-        ensures { result ≡ first_of (λ x. R.Ranking.ahead ranking.now key.now (R.Ranking.key_of ranking.now x)) (held self.now) }
+    pub fn first_behind(&self, key: &R::Key) -> Option<E>
+        ensures { result ≡ find (λ x. R.Ranking.ahead self.now.ranking key.now (R.Ranking.key_of self.now.ranking x)) (held self.now) }
     {
-        row_behind(ranking, self.rows, self.len, key)
+        self.as_slice().get(self.place(key)).copied()
+    }
+
+    // The index of the first entry that the key comes before, or the length.
+    fn place(&self, key: &R::Key) -> usize
+        ensures within { result ≤ length (held self.now) }
+        ensures past { (k : ℕ) (d : E) → k < result → R.Ranking.ahead self.now.ranking key.now (R.Ranking.key_of self.now.ranking (slice_index_or (held self.now) k d)) ≡ false }
+        ensures here { (d : E) → result < length (held self.now) → R.Ranking.ahead self.now.ranking key.now (R.Ranking.key_of self.now.ranking (slice_index_or (held self.now) result d)) ≡ true }
+    {
+        let ranking = &self.ranking;
+        self.as_slice()
+            .partition_point(|entry| !ranking.before(key, &ranking.key(entry)))
     }
 }

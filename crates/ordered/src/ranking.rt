@@ -1,23 +1,25 @@
 // What it takes to keep entries in order: a key of each entry, and a strict total order of the keys.
 ghost use Rattle.std.specs.Prelude.{◌≡◌, Bool, true, false};
 
-// A way to rank entries of type E by keys of type K.
-pub trait Ranking<E, K> {
+// A way to rank entries of type E by their keys.
+pub trait Ranking<E> {
+    type Key: Drop;
+
     // the key of an entry
-    ghost key_of: { Self → E → K };
+    ghost key_of: { Self → E → Self.Key };
 
     // whether the first key comes before the second
-    ghost ahead: { Self → K → K → Bool };
+    ghost ahead: { Self → Self.Key → Self.Key → Bool };
 
-    fn key(&self, entry: &E) -> K
+    fn key(&self, entry: &E) -> Self::Key
         ensures { result ≡ key_of self.now entry.now };
 
-    fn before(&self, first: &K, second: &K) -> bool
+    fn before(&self, first: &Self::Key, second: &Self::Key) -> bool
         ensures { result ≡ ahead self.now first.now second.now };
 
-    ghost irreflexive: { (s : Self) (j : K) → ahead s j j ≡ false };
+    ghost irreflexive: { (s : Self) (j : Self.Key) → ahead s j j ≡ false };
 
-    ghost transitive: { (s : Self) (i j k : K) → ahead s i j ≡ true → ahead s j k ≡ true → ahead s i k ≡ true };
+    ghost transitive: { (s : Self) (i j k : Self.Key) → ahead s i j ≡ true → ahead s j k ≡ true → ahead s i k ≡ true };
 
-    ghost total: { (s : Self) (j k : K) → ahead s j k ≡ false → ahead s k j ≡ false → j ≡ k };
+    ghost total: { (s : Self) (j k : Self.Key) → ahead s j k ≡ false → ahead s k j ≡ false → j ≡ k };
 }

@@ -1,0 +1,77 @@
+// A list over lent rows.
+ghost use Rattle.std.specs.Prelude.{◌≡◌, ◌+◌, ◌<◌, ◌≤◌, Bool, [], length, slice_index_or, slice_set, insert, remove};
+
+/// Entries in lent rows: the first `len` rows hold them, and the rows past those are spare. Every row
+/// that is spare after a change is as it was before.
+#[derive(Drop)]
+pub struct LentList<'a, E> {
+    rows: &'a mut [E],
+    len: usize,
+    ghost fits: { len ≤ length rows.now },
+}
+
+impl<'a, E: Copy> LentList<'a, E> {
+    ghost use Rattle.ordered.specs.Lent.{entries, size, SpareKept};
+    ghost use Rattle.ordered.specs.Sorting.{Sorted};
+
+    /// An empty list, whatever the rows hold.
+    pub fn new(rows: &'a mut [E]) -> LentList<'a, E>
+        ensures entries { entries result ≡ [] }
+        ensures rows { result.rows.now ≡ rows.old }
+    {
+        LentList { rows, len: 0 }
+    }
+
+    /// How many entries there are.
+    pub fn len(&self) -> usize
+        ensures { result ≡ length (entries self.now) }
+    {
+        self.as_slice().len()
+    }
+
+    /// The entries.
+    pub fn as_slice(&self) -> &[E]
+        ensures { result.now ≡ entries self.now }
+    {
+        &self.rows[..self.len]
+    }
+
+    /// Writes an entry over another.
+    pub fn set(&mut self, at: usize, entry: E)
+        requires { at < length (entries self.old) }
+        ensures entries { entries self.new ≡ slice_set (entries self.old) at entry }
+        ensures size { size self.new ≡ size self.old }
+        ensures spare { SpareKept self.old self.new }
+    {
+        let held = &mut self.rows[..self.len];
+        held[at] = entry;
+    }
+
+    /// Puts an entry before the one at `at`, or behind the last.
+    pub fn insert(&mut self, at: usize, entry: E)
+        requires room { length (entries self.old) < size self.old }
+        requires within { at ≤ length (entries self.old) }
+        ensures entries { entries self.new ≡ insert (entries self.old) at entry }
+        ensures size { size self.new ≡ size self.old }
+        ensures spare { SpareKept self.old self.new }
+    {
+        self.rows.copy_within(at..self.len, at + 1);
+        self.rows[at] = entry;
+        self.len += 1;
+    }
+
+    /// Takes out the entry at `at`: those behind it move up, and the row that is set free keeps the
+    /// entry that was the last.
+    pub fn remove(&mut self, at: usize) -> E
+        requires { at < length (entries self.old) }
+        ensures value { (d : E) → result ≡ slice_index_or (entries self.old) at d }
+        ensures entries { entries self.new ≡ remove (entries self.old) at }
+        ensures size { size self.new ≡ size self.old }
+        ensures spare { SpareKept self.old self.new }
+    {
+        let entry = self.rows[at];
+        self.rows.copy_within(at + 1..self.len, at);
+        self.len -= 1;
+        entry
+    }
+}
