@@ -1,5 +1,5 @@
 // A list over lent rows.
-ghost use Rattle.std.specs.Prelude.{◌≡◌, ◌+◌, ◌<◌, ◌≤◌, Bool, [], length, slice_index_or, slice_set, insert, remove};
+ghost use Rattle.std.specs.Prelude.{◌≡◌, ◌+◌, ◌<◌, ◌≤◌, Bool, [], ◌∷◌, ◌++◌, length, slice_index_or, slice_set, insert, remove};
 
 /// Entries in lent rows: the first `len` rows hold them, and the rows past those are spare. Every row
 /// that is spare after a change is as it was before.
@@ -45,6 +45,17 @@ impl<'a, E: Copy> LentList<'a, E> {
     {
         let held = &mut self.rows[..self.len];
         held[at] = entry;
+    }
+
+    /// Puts an entry behind the last.
+    pub fn push(&mut self, entry: E)
+        requires { length (entries self.old) < size self.old }
+        ensures entries { entries self.new ≡ entries self.old ++ entry ∷ [] }
+        ensures size { size self.new ≡ size self.old }
+        ensures spare { SpareKept self.old self.new }
+    {
+        let end = self.len();
+        self.insert(end, entry);
     }
 
     /// Puts an entry before the one at `at`, or behind the last.

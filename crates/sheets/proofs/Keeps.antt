@@ -1,29 +1,29 @@
 -- The laws of a sheet are kept by a take and by a put.
 use Rattle.std.proofs.Common.{◌≡◌, ℕ, suc, ◌^◌, ◌<◌, ◌≤◌, Bool, true, false, cond, not, ◌&&◌, ltb, leb, List, [], ◌∷◌, ◌++◌, length, filter, sym, refl, ap, ◌∙◌, subst, ⊎_elim, arith}
-use Rattle.std.specs.List.{AllByRecursion}
+use Rattle.std.specs.List.{AllByRecursion, list_all, list_any}
 use Rattle.std.proofs.lemmas.List.Elements.{filter-append}
 use Rattle.std.proofs.ByRecursion.{all_kept_by, All-append}
 use Rattle.std.proofs.lemmas.Bool.{cases_Bool, both_ways, and_from, and_cases, not-false, not_from_false, le-leb, lt-ltb, lt-leb, leb-false, cond-true, cond-false}
-use Rattle.ordered.specs.Sorting.{insert_by, Sorted, some_of}
+use Rattle.ordered.specs.Sorting.{insert_by, Sorted}
 use Rattle.ordered.proofs.Sorts.{all_insert, sorted_insert, length-insert}
 use Rattle.market.specs.declared.order.Order.{Order}
 use Rattle.market.specs.declared.order.Side.{Side}
 use Rattle.market.specs.declared.order.Side.TheVariants.{Buy, Offer}
 use Rattle.sheets.specs.Sides.{Sides, sides_of, of_side, with_side, standing, numbered, same_side, on, outranks, without, take_from, joined, put_in, over, full}
-use Rattle.sheets.specs.Tests.{all_of, is_sorted, is_apart, is_bounded, is_line, is_sheet}
+use Rattle.sheets.specs.Tests.{is_sorted, is_apart, is_bounded, is_line, is_sheet}
 use Rattle.sheets.specs.Laws.{Free, Apart, Bounded, LineLaws, SheetLaws}
 use Rattle.sheets.proofs.Ranks.{outranks-transitive, outranks-total}
 use Rattle.sheets.proofs.Numbers.{all_left, all_right, without-free, free-none, apart-kept, sides-same}
 
 -- ---- the test tells no more than the laws
 
-all-to : {X : Type 0} (test : X → Bool) (P : X → Type 0) → ((x : X) → P x → test x ≡ true) → (xs : List X) → AllByRecursion P xs → all_of test xs ≡ true
+all-to : {X : Type 0} (test : X → Bool) (P : X → Type 0) → ((x : X) → P x → test x ≡ true) → (xs : List X) → AllByRecursion P xs → list_all test xs ≡ true
 all-to test P says [] e = refl
-all-to test P says (x ∷ xs) e = and_from (test x) (all_of test xs) (says x e.0) (all-to test P says xs e.1)
+all-to test P says (x ∷ xs) e = and_from (test x) (list_all test xs) (says x e.0) (all-to test P says xs e.1)
 
 sorted-to : {X : Type 0} (ahead : X → X → Bool) (xs : List X) → Sorted ahead xs → is_sorted ahead xs ≡ true
 sorted-to ahead [] e = refl
-sorted-to ahead (x ∷ xs) e = and_from (all_of (ahead x) xs) (is_sorted ahead xs) (all-to (ahead x) (λ y. ahead x y ≡ true) (λ y h. h) xs e.0) (sorted-to ahead xs e.1)
+sorted-to ahead (x ∷ xs) e = and_from (list_all (ahead x) xs) (is_sorted ahead xs) (all-to (ahead x) (λ y. ahead x y ≡ true) (λ y h. h) xs e.0) (sorted-to ahead xs e.1)
 
 side_on : (v w : Side) → w ≡ v → same_side v w ≡ true
 side_on Buy w e = ap (same_side Buy) e
@@ -37,13 +37,13 @@ bounded-to o b =
 
 pub apart-to : (xs : List Order) → Apart xs → is_apart xs ≡ true
 apart-to [] e = refl
-apart-to (x ∷ xs) e = and_from (not (some_of (numbered x.number) xs)) (is_apart xs) (not_from_false (some_of (numbered x.number) xs) (free-none x.number xs e.0)) (apart-to xs e.1)
+apart-to (x ∷ xs) e = and_from (not (list_any (numbered x.number) xs)) (is_apart xs) (not_from_false (list_any (numbered x.number) xs) (free-none x.number xs e.0)) (apart-to xs e.1)
 
 line-to : (v : Side) (n : ℕ) (xs : List Order) → LineLaws v n xs → is_line v n xs ≡ true
 line-to v n xs l =
-    and_from (leb (length xs) n && all_of (on v) xs) (is_sorted (outranks v) xs && all_of is_bounded xs)
-    (and_from (leb (length xs) n) (all_of (on v) xs) (le-leb (length xs) n l.fits) (all-to (on v) (λ o. o.side ≡ v) (λ o. side_on v o.side) xs l.sided))
-    (and_from (is_sorted (outranks v) xs) (all_of is_bounded xs) (sorted-to (outranks v) xs l.sorted) (all-to is_bounded Bounded bounded-to xs l.bounded))
+    and_from (leb (length xs) n && list_all (on v) xs) (is_sorted (outranks v) xs && list_all is_bounded xs)
+    (and_from (leb (length xs) n) (list_all (on v) xs) (le-leb (length xs) n l.fits) (all-to (on v) (λ o. o.side ≡ v) (λ o. side_on v o.side) xs l.sided))
+    (and_from (is_sorted (outranks v) xs) (list_all is_bounded xs) (sorted-to (outranks v) xs l.sorted) (all-to is_bounded Bounded bounded-to xs l.bounded))
 
 pub tested : (n : ℕ) (s : Sides) → SheetLaws n s → is_sheet n s ≡ true
 tested n s l =
@@ -67,7 +67,7 @@ length-kept p (x ∷ xs) =
     [ true ↦ omega arith | false ↦ omega arith ]
 
 -- one that stands leaves a place
-length_without : (n : ℕ) (xs : List Order) → some_of (numbered n) xs ≡ true → length (without n xs) < length xs
+length_without : (n : ℕ) (xs : List Order) → list_any (numbered n) xs ≡ true → length (without n xs) < length xs
 length_without n [] e = absurd (both_ways false refl e)
 length_without n (x ∷ xs) e =
     ⊎_elim
@@ -180,8 +180,8 @@ place_at : (n k : ℕ) (xs : List Order) → length xs ≤ n → over n k xs ≡
 place_at n k xs le f =
     ⊎_elim
     (λ h. let a = length-kept (λ x. not (numbered k x)) xs in let b = leb-false n (length xs) h in omega arith)
-    (λ h. let a = length_without k xs (not-false (some_of (numbered k) xs) h) in omega arith)
-    (and_cases (leb n (length xs)) (not (some_of (numbered k) xs)) f)
+    (λ h. let a = length_without k xs (not-false (list_any (numbered k) xs) h) in omega arith)
+    (and_cases (leb n (length xs)) (not (list_any (numbered k) xs)) f)
 
 -- where it is not refused, the order of that number taken out leaves a place
 place-by : (v : Side) (n k : ℕ) (s : Sides) → SheetLaws n s → over n k (of_side v s) ≡ false → length (of_side v (take_from k s)) < n
@@ -197,22 +197,17 @@ put-lawful n o s l b f = add_lawful n o (take_from o.number s) b (taken_free o.n
 -- ---- the test of a put
 
 -- at n orders, it depends on whether one of that number was found
-pub over-full : (n k : ℕ) (xs : List Order) (found b : Bool) → n ≤ length xs → some_of (numbered k) xs ≡ found → found ≡ not b → b ≡ over n k xs
-over-full n k xs found b le e h =
-    sym (ap (λ t. t && not (some_of (numbered k) xs)) (le-leb n (length xs) le) ∙ ap not (e ∙ h) ∙ twice b)
-  where
-    twice : (t : Bool) → not (not t) ≡ t
-    twice true = refl
-    twice false = refl
+pub over-full : (n k : ℕ) (xs : List Order) (found : Bool) → n ≤ length xs → found ≡ list_any (numbered k) xs → not found ≡ over n k xs
+over-full n k xs found le e = ap not e ∙ sym (ap (λ t. t && not (list_any (numbered k) xs)) (le-leb n (length xs) le))
 
 -- under n orders there is a place
 pub over-less : (n k m : ℕ) (xs : List Order) → m ≡ length xs → m < n → leb n m ≡ over n k xs
 over-less n k m xs e lt =
     let f : leb n (length xs) ≡ false = lt-leb n (length xs) (omega arith) in
-    ap (leb n) e ∙ f ∙ sym (ap (λ t. t && not (some_of (numbered k) xs)) f)
+    ap (leb n) e ∙ f ∙ sym (ap (λ t. t && not (list_any (numbered k) xs)) f)
 
 -- one of that number keeps its place
-pub over-some : (n k : ℕ) (xs : List Order) → some_of (numbered k) xs ≡ true → over n k xs ≡ false
+pub over-some : (n k : ℕ) (xs : List Order) → list_any (numbered k) xs ≡ true → over n k xs ≡ false
 over-some n k xs e = ap (λ b. leb n (length xs) && not b) e ∙ last (leb n (length xs))
   where
     last : (b : Bool) → (b && false) ≡ false

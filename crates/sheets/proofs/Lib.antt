@@ -7,3 +7,4 @@ pub mod Lines
 pub mod Tops
 pub mod Walks
 pub mod PriorityLists
+pub mod Arrivals

@@ -1,11 +1,12 @@
 -- The sides that rows in any order make.
-use Rattle.std.proofs.Common.{◌≡◌, ℕ, zero, suc, ◌+◌, ◌-◌, ◌<◌, ◌≤◌, Bool, true, false, cond, not, ◌&&◌, leb, ◌≢◌, ◌⊎◌, List, [], ◌∷◌, ◌++◌, length, get_or, take, drop, Some, None, filter, Option, sym, refl, ap, ◌∙◌, subst, ap₂, inl, inr, ⊎_elim, arith}
-use Rattle.std.specs.List.{AllByRecursion}
-use Rattle.std.proofs.lemmas.List.{drop_more, length-take-le, get_or-take}
-use Rattle.std.proofs.lemmas.List.Filters.{length-filter_both, length-filter_more}
+use Rattle.std.proofs.Common.{◌≡◌, ℕ, ◌+◌, ◌<◌, ◌≤◌, Bool, true, false, cond, not, ◌&&◌, ◌||◌, leb, ◌≢◌, ◌⊎◌, List, [], ◌∷◌, ◌++◌, length, Some, None, filter, Option, reverse, sym, refl, ap, ◌∙◌, subst, ap₂, inl, inr, ⊎_elim, arith}
+use Rattle.std.specs.List.{AllByRecursion, find, fold, list_any}
+use Rattle.std.proofs.lemmas.List.Sums.{fold_push}
+use Rattle.std.proofs.lemmas.List.{reverse-append}
+use Rattle.std.proofs.lemmas.List.Filters.{length-filter_both}
 use Rattle.std.proofs.ByRecursion.{All-weaker, all_kept_by}
 use Rattle.std.proofs.lemmas.Bool.{cases_Bool, both_ways, eqb-true, eqb-false, ne_eqb, cond-true, cond-false, and_cases, not-false, leb-false}
-use Rattle.ordered.specs.Sorting.{insert_by, sort_by, Sorted, first_of, some_of}
+use Rattle.ordered.specs.Sorting.{insert_by, sort_by, Sorted}
 use Rattle.ordered.proofs.Sorts.{all_insert, sorted_insert, insert-front, length-sort}
 use Rattle.ordered.proofs.Commutes.{insert-swap}
 use Rattle.market.specs.declared.order.Order.{Order}
@@ -159,31 +160,25 @@ length-arranged xs =
     let c = length-filter_both (on Buy) (on Offer) (λ (x : Order). other-side x.side) xs in
     omega arith
 
--- the first n rows
-pub rows-counted : (n : ℕ) (xs : List Order) → n ≤ length xs → n ≡ length (line Buy (take n xs)) + length (line Offer (take n xs))
-rows-counted n xs le = let a = length-arranged (take n xs) in let l = length-take-le n xs le in omega arith
-
 -- ---- a number sought
 
-some-insert : {X : Type 0} (test : X → Bool) (ahead : X → X → Bool) (x : X) (xs : List X) → some_of test (insert_by ahead x xs) ≡ cond (test x) true (some_of test xs)
+some-insert : {X : Type 0} (test : X → Bool) (ahead : X → X → Bool) (x : X) (xs : List X) → list_any test (insert_by ahead x xs) ≡ (test x || list_any test xs)
 some-insert test ahead x [] = refl
 some-insert test ahead x (y ∷ ys) =
-    elim (ahead x y) as (λ b. some_of test (cond b (x ∷ y ∷ ys) (y ∷ insert_by ahead x ys)) ≡ cond (test x) true (cond (test y) true (some_of test ys))) [
-      | true ↦ refl
-      | false ↦ ap (λ b. cond (test y) true b) (some-insert test ahead x ys) ∙ swap (test x) (test y) (some_of test ys)
-    ]
+    elim (ahead x y) as (λ b. list_any test (cond b (x ∷ y ∷ ys) (y ∷ insert_by ahead x ys)) ≡ (test x || (test y || list_any test ys)))
+    [ true ↦ refl | false ↦ ap (λ b. test y || b) (some-insert test ahead x ys) ∙ swap (test x) (test y) (list_any test ys) ]
   where
-    swap : (a b c : Bool) → cond b true (cond a true c) ≡ cond a true (cond b true c)
+    swap : (a b c : Bool) → (b || (a || c)) ≡ (a || (b || c))
     swap true true c = refl
     swap true false c = refl
     swap false true c = refl
     swap false false c = refl
 
-some-sort : (test : Order → Bool) (s : Side) (xs : List Order) → some_of test (sort_by (outranks s) xs) ≡ some_of test xs
+some-sort : (test : Order → Bool) (s : Side) (xs : List Order) → list_any test (sort_by (outranks s) xs) ≡ list_any test xs
 some-sort test s [] = refl
-some-sort test s (x ∷ xs) = some-insert test (outranks s) x (sort_by (outranks s) xs) ∙ ap (λ b. cond (test x) true b) (some-sort test s xs)
+some-sort test s (x ∷ xs) = some-insert test (outranks s) x (sort_by (outranks s) xs) ∙ ap (λ b. test x || b) (some-sort test s xs)
 
-pub some-line : (test : Order → Bool) (s : Side) (xs : List Order) → some_of test (line s xs) ≡ some_of test (filter (on s) xs)
+pub some-line : (test : Order → Bool) (s : Side) (xs : List Order) → list_any test (line s xs) ≡ list_any test (filter (on s) xs)
 some-line test s xs = some-sort test s (filter (on s) xs)
 
 module _ {X : Type 0} (test : X → Bool) where
@@ -195,26 +190,26 @@ module _ {X : Type 0} (test : X → Bool) where
       (λ f. rw f refl)
       (cases_Bool (test x))
 
-  first-insert-left : (ahead : X → X → Bool) (x : X) (zs ws : List X) → (test x ≡ true → AllByRecursion (λ z. test z ≡ false) zs) → first_of test (insert_by ahead x zs ++ ws) ≡ cond (test x) (Some x) (first_of test (zs ++ ws))
+  first-insert-left : (ahead : X → X → Bool) (x : X) (zs ws : List X) → (test x ≡ true → AllByRecursion (λ z. test z ≡ false) zs) → find test (insert_by ahead x zs ++ ws) ≡ cond (test x) (Some x) (find test (zs ++ ws))
   first-insert-left ahead x [] ws h = refl
   first-insert-left ahead x (z ∷ zs) ws h =
-      elim (ahead x z) as (λ b. first_of test (cond b (x ∷ z ∷ zs) (z ∷ insert_by ahead x zs) ++ ws) ≡ cond (test x) (Some x) (cond (test z) (Some z) (first_of test (zs ++ ws)))) [
+      elim (ahead x z) as (λ b. find test (cond b (x ∷ z ∷ zs) (z ∷ insert_by ahead x zs) ++ ws) ≡ cond (test x) (Some x) (cond (test z) (Some z) (find test (zs ++ ws)))) [
         | true ↦ refl
-        | false ↦ ap (λ r. cond (test z) (Some z) r) (first-insert-left ahead x zs ws (λ t. (h t).1)) ∙ cond-swap x z (first_of test (zs ++ ws)) (λ t. (h t).0)
+        | false ↦ ap (λ r. cond (test z) (Some z) r) (first-insert-left ahead x zs ws (λ t. (h t).1)) ∙ cond-swap x z (find test (zs ++ ws)) (λ t. (h t).0)
       ]
 
-  first-insert : (ahead : X → X → Bool) (x : X) (zs : List X) → (test x ≡ true → AllByRecursion (λ z. test z ≡ false) zs) → first_of test (insert_by ahead x zs) ≡ cond (test x) (Some x) (first_of test zs)
+  first-insert : (ahead : X → X → Bool) (x : X) (zs : List X) → (test x ≡ true → AllByRecursion (λ z. test z ≡ false) zs) → find test (insert_by ahead x zs) ≡ cond (test x) (Some x) (find test zs)
   first-insert ahead x [] h = refl
   first-insert ahead x (z ∷ zs) h =
-      elim (ahead x z) as (λ b. first_of test (cond b (x ∷ z ∷ zs) (z ∷ insert_by ahead x zs)) ≡ cond (test x) (Some x) (cond (test z) (Some z) (first_of test zs))) [
+      elim (ahead x z) as (λ b. find test (cond b (x ∷ z ∷ zs) (z ∷ insert_by ahead x zs)) ≡ cond (test x) (Some x) (cond (test z) (Some z) (find test zs))) [
         | true ↦ refl
-        | false ↦ ap (λ r. cond (test z) (Some z) r) (first-insert ahead x zs (λ t. (h t).1)) ∙ cond-swap x z (first_of test zs) (λ t. (h t).0)
+        | false ↦ ap (λ r. cond (test z) (Some z) r) (first-insert ahead x zs (λ t. (h t).1)) ∙ cond-swap x z (find test zs) (λ t. (h t).0)
       ]
 
-  first-insert-right : (ahead : X → X → Bool) (x : X) (ws zs : List X) → (test x ≡ true → AllByRecursion (λ z. test z ≡ false) ws) → (test x ≡ true → AllByRecursion (λ z. test z ≡ false) zs) → first_of test (ws ++ insert_by ahead x zs) ≡ cond (test x) (Some x) (first_of test (ws ++ zs))
+  first-insert-right : (ahead : X → X → Bool) (x : X) (ws zs : List X) → (test x ≡ true → AllByRecursion (λ z. test z ≡ false) ws) → (test x ≡ true → AllByRecursion (λ z. test z ≡ false) zs) → find test (ws ++ insert_by ahead x zs) ≡ cond (test x) (Some x) (find test (ws ++ zs))
   first-insert-right ahead x [] zs g h = first-insert ahead x zs h
   first-insert-right ahead x (w ∷ ws) zs g h =
-      ap (λ r. cond (test w) (Some w) r) (first-insert-right ahead x ws zs (λ t. (g t).1) h) ∙ cond-swap x w (first_of test (ws ++ zs)) (λ t. (g t).0)
+      ap (λ r. cond (test w) (Some w) r) (first-insert-right ahead x ws zs (λ t. (g t).1) h) ∙ cond-swap x w (find test (ws ++ zs)) (λ t. (g t).0)
 
 -- where x has the number, no order of a line free of it has
 none_of : (n : ℕ) (x : Order) (s : Side) (xs : List Order) → Free x.number xs → numbered n x ≡ true → AllByRecursion (λ z. numbered n z ≡ false) (line s xs)
@@ -222,30 +217,30 @@ none_of n x s xs f t =
     All-weaker (λ z. z.number ≡ x.number → ⊥) (λ z. numbered n z ≡ false) (λ z ne. ne_eqb z.number n (λ e. ne (e ∙ sym (eqb-true x.number n t)))) (line s xs)
     (all-line (λ z. z.number ≡ x.number → ⊥) s xs f)
 
-find_at : (v : Side) (n : ℕ) (x : Order) (xs : List Order) → x.side ≡ v → Free x.number xs → first_of (numbered n) (line Buy (x ∷ xs) ++ line Offer (x ∷ xs)) ≡ cond (numbered n x) (Some x) (first_of (numbered n) (line Buy xs ++ line Offer xs))
+find_at : (v : Side) (n : ℕ) (x : Order) (xs : List Order) → x.side ≡ v → Free x.number xs → find (numbered n) (line Buy (x ∷ xs) ++ line Offer (x ∷ xs)) ≡ cond (numbered n x) (Some x) (find (numbered n) (line Buy xs ++ line Offer xs))
 find_at Buy n x xs e f =
-    ap₂ (λ (a b : List Order). first_of (numbered n) (a ++ b))
+    ap₂ (λ (a b : List Order). find (numbered n) (a ++ b))
     (line-cons Buy x xs ∙ cond-true (on Buy x) (insert_by (outranks Buy) x (line Buy xs)) (line Buy xs) (ap (same_side Buy) e))
     (line-cons Offer x xs ∙ cond-false (on Offer x) (insert_by (outranks Offer) x (line Offer xs)) (line Offer xs) (ap (same_side Offer) e))
     ∙ first-insert-left (numbered n) (outranks Buy) x (line Buy xs) (line Offer xs) (none_of n x Buy xs f)
 find_at Offer n x xs e f =
-    ap₂ (λ (a b : List Order). first_of (numbered n) (a ++ b))
+    ap₂ (λ (a b : List Order). find (numbered n) (a ++ b))
     (line-cons Buy x xs ∙ cond-false (on Buy x) (insert_by (outranks Buy) x (line Buy xs)) (line Buy xs) (ap (same_side Buy) e))
     (line-cons Offer x xs ∙ cond-true (on Offer x) (insert_by (outranks Offer) x (line Offer xs)) (line Offer xs) (ap (same_side Offer) e))
     ∙ first-insert-right (numbered n) (outranks Offer) x (line Buy xs) (line Offer xs) (none_of n x Buy xs f) (none_of n x Offer xs f)
 
-pub find-arranged : (n : ℕ) (xs : List Order) → Apart xs → first_of (numbered n) xs ≡ find_in n (arranged xs)
+pub find-arranged : (n : ℕ) (xs : List Order) → Apart xs → find (numbered n) xs ≡ find_in n (arranged xs)
 find-arranged n [] h = refl
 find-arranged n (x ∷ xs) h = ap (λ r. cond (numbered n x) (Some x) r) (find-arranged n xs h.1) ∙ sym (find_at x.side n x xs refl h.0)
 
 -- ---- the best of a scan
 
-first-all : {X : Type 0} (P : X → Type 0) (test : X → Bool) (xs : List X) → AllByRecursion P xs → (first_of test xs ≡ None) ⊎ ((y : X) × (first_of test xs ≡ Some y) × P y)
+first-all : {X : Type 0} (P : X → Type 0) (test : X → Bool) (xs : List X) → AllByRecursion P xs → (find test xs ≡ None) ⊎ ((y : X) × (find test xs ≡ Some y) × P y)
 first-all P test [] h = inl refl
 first-all P test (x ∷ xs) h =
     ⊎_elim (λ t. inr (x, (rw t refl), h.0)) (λ f. rw f (first-all P test xs h.1)) (cases_Bool (test x))
 
-beat-all : {X : Type 0} (ahead : X → X → Bool) (test : X → Bool) (x : X) (xs : List X) → AllByRecursion (λ y. ahead x y ≡ true) xs → beat ahead x (first_of test xs) ≡ Some x
+beat-all : {X : Type 0} (ahead : X → X → Bool) (test : X → Bool) (x : X) (xs : List X) → AllByRecursion (λ y. ahead x y ≡ true) xs → beat ahead x (find test xs) ≡ Some x
 beat-all ahead test x xs h =
     ⊎_elim
     (λ e. ap (beat ahead x) e)
@@ -253,7 +248,7 @@ beat-all ahead test x xs h =
     (first-all (λ y. ahead x y ≡ true) test xs h)
 
 module _ {X : Type 0} (ahead : X → X → Bool) (tr : (x y z : X) → ahead x y ≡ true → ahead y z ≡ true → ahead x z ≡ true) (test : X → Bool) where
-  pub best_insert : (x : X) (xs : List X) → Sorted ahead xs → first_of test (insert_by ahead x xs) ≡ cond (test x) (beat ahead x (first_of test xs)) (first_of test xs)
+  pub best_insert : (x : X) (xs : List X) → Sorted ahead xs → find test (insert_by ahead x xs) ≡ cond (test x) (beat ahead x (find test xs)) (find test xs)
   best_insert x [] h = refl
   best_insert x (y ∷ ys) h =
       ⊎_elim
@@ -269,51 +264,28 @@ module _ {X : Type 0} (ahead : X → X → Bool) (tr : (x y z : X) → ahead x y
       (cases_Bool (test y))))
       (cases_Bool (ahead x y))
 
-best_joined : (s : Side) (p : Option Priority) (x : Order) (xs : List Order) → Sorted (outranks s) xs → first_of (is_behind s p) (joined s x xs) ≡ first_with s p x (first_of (is_behind s p) xs)
+best_joined : (s : Side) (p : Option Priority) (x : Order) (xs : List Order) → Sorted (outranks s) xs → find (is_behind s p) (joined s x xs) ≡ first_with s p x (find (is_behind s p) xs)
 best_joined s p x xs h =
-    elim (on s x) as (λ b. first_of (is_behind s p) (cond b (insert_by (outranks s) x xs) xs) ≡ cond (b && is_behind s p x) (beat (outranks s) x (first_of (is_behind s p) xs)) (first_of (is_behind s p) xs))
+    elim (on s x) as (λ b. find (is_behind s p) (cond b (insert_by (outranks s) x xs) xs) ≡ cond (b && is_behind s p x) (beat (outranks s) x (find (is_behind s p) xs)) (find (is_behind s p) xs))
     [ true ↦ best_insert (outranks s) (outranks-transitive s) (is_behind s p) x xs h | false ↦ refl ]
 
-apart-drop : (i : ℕ) (xs : List Order) → Apart xs → Apart (drop i xs)
-apart-drop zero xs h = h
-apart-drop (suc i) [] h = tt
-apart-drop (suc i) (x ∷ xs) h = apart-drop i xs h.1
+-- a scan from the last to the first
+pub scanned : (s : Side) (p : Option Priority) (xs : List Order) → Apart xs → fold (λ first x. first_with s p x first) None (reverse xs) ≡ find (is_behind s p) (line s xs)
+scanned s p [] h = refl
+scanned s p (x ∷ xs) h =
+    ap (fold (λ first y. first_with s p y first) None) (reverse-append (x ∷ []) xs)
+    ∙ fold_push (λ first y. first_with s p y first) None (reverse xs) x
+    ∙ ap (first_with s p x) (scanned s p xs h.1)
+    ∙ sym (ap (find (is_behind s p)) (line-cons s x xs) ∙ best_joined s p x (line s xs) (line-sorted s xs h.1))
 
--- one more row of the scan, from the last to the first
-pub best_step : (s : Side) (p : Option Priority) (xs : List Order) (i : ℕ) (d : Order) → Apart xs → i < length xs
-    → first_with s p (get_or xs i d) (first_of (is_behind s p) (line s (drop (i + 1) xs))) ≡ first_of (is_behind s p) (line s (drop i xs))
-best_step s p xs i d h lt =
-    sym (ap (λ (zs : List Order). first_of (is_behind s p) (line s zs)) (drop_more xs i d lt)
-    ∙ ap (first_of (is_behind s p)) (line-cons s (get_or xs i d) (drop (i + 1) xs))
-    ∙ best_joined s p (get_or xs i d) (line s (drop (i + 1) xs)) (line-sorted s (drop (i + 1) xs) (apart-drop (i + 1) xs h)))
-
--- ---- loops over the rows
+-- ---- by both tests
 
 -- sought among those kept, or by both tests
-pub some-both : {X : Type 0} (p test : X → Bool) (xs : List X) → some_of test (filter p xs) ≡ some_of (λ x. p x && test x) xs
+pub some-both : {X : Type 0} (p test : X → Bool) (xs : List X) → list_any test (filter p xs) ≡ list_any (λ x. p x && test x) xs
 some-both p test [] = refl
 some-both p test (x ∷ xs) =
-    elim (p x) as (λ b. some_of test (cond b (x ∷ filter p xs) (filter p xs)) ≡ cond (b && test x) true (some_of (λ y. p y && test y) xs))
-    [ true ↦ ap (λ b. cond (test x) true b) (some-both p test xs) | false ↦ some-both p test xs ]
-
-module _ {X : Type 0} (p : X → Bool) (xs : List X) (i : ℕ) (d : X) (lt : i < length xs) where
-  pub count_yes : true ≡ p (get_or xs i d) → length (filter p (take (i + 1) xs)) ≡ length (filter p (take i xs)) + 1
-  count_yes e = length-filter_more p xs i d lt ∙ ap (λ b. length (filter p (take i xs)) + cond b 1 0) (sym e)
-
-  pub count_no : false ≡ p (get_or xs i d) → length (filter p (take (i + 1) xs)) ≡ length (filter p (take i xs))
-  count_no e = let h = length-filter_more p xs i d lt ∙ ap (λ b. length (filter p (take i xs)) + cond b 1 0) (sym e) in omega arith
-
--- one turn of the scan, over the first n rows
-pub best_turn : (s : Side) (p : Option Priority) (rows : List Order) (n i : ℕ) (d : Order) (best : Option Order) → Apart (take n rows) → n ≤ length rows → 0 < i → i ≤ n
-    → best ≡ first_of (is_behind s p) (line s (drop i (take n rows)))
-    → first_with s p (get_or rows (i - 1) d) best ≡ first_of (is_behind s p) (line s (drop (i - 1) (take n rows)))
-best_turn s p rows n i d best apart le pos within e =
-    let l = length-take-le n rows le in
-    let back : i ≡ (i - 1) + 1 = omega arith in
-    let inside : i - 1 < n = omega arith in
-    ap (first_with s p (get_or rows (i - 1) d)) (e ∙ ap (λ (j : ℕ). first_of (is_behind s p) (line s (drop j (take n rows)))) back)
-    ∙ ap (λ (x : Order). first_with s p x (first_of (is_behind s p) (line s (drop ((i - 1) + 1) (take n rows))))) (sym (get_or-take n rows (i - 1) d inside))
-    ∙ best_step s p (take n rows) (i - 1) d apart (omega arith)
+    elim (p x) as (λ b. list_any test (cond b (x ∷ filter p xs) (filter p xs)) ≡ ((b && test x) || list_any (λ y. p y && test y) xs))
+    [ true ↦ ap (λ b. test x || b) (some-both p test xs) | false ↦ some-both p test xs ]
 
 -- ---- the test of a put
 
@@ -332,12 +304,12 @@ place_at v n k xs l f free =
     let a = l.offers.fits in
     ⊎_elim
     (λ h. short v (leb-false n (length (line v xs)) h) b a total)
-    (λ h. absurd (both_ways (some_of (numbered k) (line v xs)) (free-none k (line v xs) (all-line (λ x. x.number ≡ k → ⊥) v xs free)) (not-false (some_of (numbered k) (line v xs)) h)))
-    (and_cases (leb n (length (line v xs))) (not (some_of (numbered k) (line v xs))) f)
+    (λ h. absurd (both_ways (list_any (numbered k) (line v xs)) (free-none k (line v xs) (all-line (λ x. x.number ≡ k → ⊥) v xs free)) (not-false (list_any (numbered k) (line v xs)) h)))
+    (and_cases (leb n (length (line v xs))) (not (list_any (numbered k) (line v xs))) f)
   where
     short : (w : Side) → length (line w xs) < n → length (line Buy xs) ≤ n → length (line Offer xs) ≤ n → length (line Buy xs) + length (line Offer xs) ≡ length xs → length xs < n + n
     short Buy lt b a t = omega arith
     short Offer lt b a t = omega arith
 
-pub place-rows : (n : ℕ) (o : Order) (xs : List Order) → SheetLaws n (arranged xs) → full n o (arranged xs) ≡ false → some_of (numbered o.number) xs ≡ false → length xs < n + n
+pub place-rows : (n : ℕ) (o : Order) (xs : List Order) → SheetLaws n (arranged xs) → full n o (arranged xs) ≡ false → list_any (numbered o.number) xs ≡ false → length xs < n + n
 place-rows n o xs l f e = place_at o.side n o.number xs l (sym (full-arranged n o xs) ∙ f) (free-from o.number xs e)

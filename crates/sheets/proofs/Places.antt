@@ -1,42 +1,67 @@
--- What is written or taken out at the index of the first row that passes a test.
-use Rattle.std.proofs.Common.{◌≡◌, ℕ, zero, suc, ◌+◌, ◌<◌, ◌≤◌, Bool, cond, List, [], ◌∷◌, ◌++◌, length, take, set, Some, None, refl, ap, ◌∙◌, arith}
-use Rattle.std.specs.List.{remove}
-use Rattle.std.proofs.lemmas.List.{take_more_set}
-use Rattle.ordered.specs.Sorting.{index_of}
-use Rattle.ordered.proofs.Indexes.{Found, Missing, found, missing, row-found, found-tail, missing-tail}
+-- What is written or taken out at the index of the first order that passes a test.
+use Rattle.std.proofs.Common.{◌≡◌, ℕ, zero, suc, ◌<◌, Bool, true, false, cond, List, [], ◌∷◌, ◌++◌, length, get_or, set, Some, None, sym, refl, ap, ◌∙◌, ⊎_elim, nat_lt, arith}
+use Rattle.std.specs.List.{find, list_any, position, position_or_len, remove, slice_get}
+use Rattle.std.specs.Option.{option_and_then}
+use Rattle.std.proofs.lemmas.Bool.{ltb-false, cond-true, cond-false, cases_Bool, both_ways}
+use Rattle.std.proofs.lemmas.List.Folds.{find_at}
+use Rattle.std.proofs.lemmas.List.Quantifiers.{position-Some}
+use Rattle.std.proofs.lemmas.Option.{slice_get_past, none-some}
 use Rattle.market.specs.declared.order.Order.{Order}
 use Rattle.sheets.specs.Rows.{put_of}
 
--- without the first row that passes
+-- without the first that passes
 abbrev pub drop_of : {X : Type 0} → (X → Bool) → List X → List X
 drop_of test [] = []
 drop_of test (x ∷ xs) = cond (test x) xs (x ∷ drop_of test xs)
 
-pub drop_at : {X : Type 0} (test : X → Bool) (xs : List X) (i : ℕ) → Found test xs i → remove xs i ≡ drop_of test xs
-drop_at test [] i f = let w = f.within in absurd (omega arith)
-drop_at test (x ∷ xs) zero f = rw (f.here x) refl
-drop_at test (x ∷ xs) (suc n) f = rw (f.past 0 x (omega arith)) (ap (λ zs. x ∷ zs) (drop_at test xs n (found-tail test x xs n f)))
+module _ {X : Type 0} (test : X → Bool) where
+  -- i is the index of the first that passes
+  pub record Found (xs : List X) (i : ℕ) : Type 0 where
+    pub within : i < length xs
+    pub past : (k : ℕ) (d : X) → k < i → test (get_or xs k d) ≡ false
+    pub here : (d : X) → test (get_or xs i d) ≡ true
+
+  pub found : (xs : List X) (i : ℕ) → Some i ≡ position test xs → Found xs i
+  found [] i e = absurd (none-some i (sym e))
+  found (x ∷ xs) i e = record {
+    within = (position-Some test (x ∷ xs) i x (sym e)).0;
+    past = λ k d h. (position-Some test (x ∷ xs) i d (sym e)).2 k h;
+    here = λ d. (position-Some test (x ∷ xs) i d (sym e)).1;
+  }
+
+  found-tail : (x : X) (xs : List X) (i : ℕ) → Found (x ∷ xs) (suc i) → Found xs i
+  found-tail x xs i f = let w = f.within in record { within = omega arith; past = λ k d h. f.past (suc k) d (omega arith); here = λ d. f.here d }
+
+  -- the first that passes stands at its index
+  pub find-position : (xs : List X) → find test xs ≡ option_and_then (slice_get xs) (position test xs)
+  find-position xs =
+      let i = position_or_len test xs in
+      let n = length xs in
+      find_at test xs
+      ∙ ⊎_elim
+      (λ t. sym (ap (option_and_then (slice_get xs)) (cond-true (nat_lt i n) (Some i) None t)))
+      (λ f. slice_get_past xs i (ltb-false i n f) ∙ sym (ap (option_and_then (slice_get xs)) (cond-false (nat_lt i n) (Some i) None f)))
+      (cases_Bool (nat_lt i n))
+
+  pub drop_at : (xs : List X) (i : ℕ) → Found xs i → remove xs i ≡ drop_of test xs
+  drop_at [] i f = let w = f.within in absurd (omega arith)
+  drop_at (x ∷ xs) zero f = rw (f.here x) refl
+  drop_at (x ∷ xs) (suc n) f = rw (f.past 0 x (omega arith)) (ap (λ zs. x ∷ zs) (drop_at xs n (found-tail x xs n f)))
 
 put-at : (test : Order → Bool) (o : Order) (xs : List Order) (i : ℕ) → Found test xs i → set xs i o ≡ put_of test o xs
 put-at test o [] i f = let w = f.within in absurd (omega arith)
 put-at test o (x ∷ xs) zero f = rw (f.here x) refl
 put-at test o (x ∷ xs) (suc n) f = rw (f.past 0 x (omega arith)) (ap (λ zs. x ∷ zs) (put-at test o xs n (found-tail test x xs n f)))
 
-put-behind : (test : Order → Bool) (o : Order) (xs : List Order) → Missing test xs → xs ++ o ∷ [] ≡ put_of test o xs
-put-behind test o [] m = refl
-put-behind test o (x ∷ xs) m = rw (m 0 x (omega arith)) (ap (λ zs. x ∷ zs) (put-behind test o xs (missing-tail test x xs m)))
+-- written over the order of that index
+pub row_put : (test : Order → Bool) (o : Order) (xs : List Order) (i : ℕ) → Some i ≡ position test xs → set xs i o ≡ put_of test o xs
+row_put test o xs i e = put-at test o xs i (found test xs i e)
 
-take-set : {X : Type 0} (xs : List X) (n i : ℕ) (y : X) → i < n → take n (set xs i y) ≡ set (take n xs) i y
-take-set [] zero i y h = refl
-take-set [] (suc n) i y h = refl
-take-set (x ∷ xs) zero i y h = absurd (omega arith)
-take-set (x ∷ xs) (suc n) zero y h = refl
-take-set (x ∷ xs) (suc n) (suc i) y h = ap (λ ws. x ∷ ws) (take-set xs n i y (omega arith))
-
--- written over the row of that index
-pub row_put : (test : Order → Bool) (o : Order) (xs : List Order) (n i : ℕ) → n ≤ length xs → Some i ≡ index_of test (take n xs) → take n (set xs i o) ≡ put_of test o (take n xs)
-row_put test o xs n i le e = take-set xs n i o (row-found test xs i n le e) ∙ put-at test o (take n xs) i (found test (take n xs) i e)
-
--- written behind the last
-pub row-behind : (test : Order → Bool) (o : Order) (xs : List Order) (n : ℕ) → n < length xs → None ≡ index_of test (take n xs) → take (n + 1) (set xs n o) ≡ put_of test o (take n xs)
-row-behind test o xs n lt e = take_more_set xs n o lt ∙ put-behind test o (take n xs) (missing test (take n xs) e)
+-- put behind the last
+pub row-behind : (test : Order → Bool) (o : Order) (xs : List Order) → list_any test xs ≡ false → xs ++ o ∷ [] ≡ put_of test o xs
+row-behind test o [] e = refl
+row-behind test o (x ∷ xs) e =
+    ⊎_elim
+    (λ t. absurd (both_ways (list_any test (x ∷ xs)) e (rw t refl)))
+    (λ f. rw f (ap (λ zs. x ∷ zs) (row-behind test o xs (rw f at e))))
+    (cases_Bool (test x))

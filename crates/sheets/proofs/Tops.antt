@@ -1,7 +1,7 @@
 -- For code above any sheet: its first order, and what is left when that is taken.
 use Rattle.std.proofs.Common.{◌≡◌, ℕ, suc, ◌+◌, ◌≤◌, true, not, List, [], ◌∷◌, length, Some, None, sym, refl, ap, ◌∙◌, subst, arith}
+use Rattle.std.specs.List.{find, list_any}
 use Rattle.std.proofs.lemmas.Bool.{eq-eqb, cond-false, not_from_true}
-use Rattle.ordered.specs.Sorting.{first_of, some_of}
 use Rattle.market.specs.declared.order.Order.{Order}
 use Rattle.market.specs.declared.order.Side.{Side}
 use Rattle.market.specs.declared.order.Side.TheVariants.{Buy, Offer}
@@ -17,7 +17,7 @@ pub side_laws : (v : Side) (n : ℕ) (s : Sides) → SheetLaws n s → LineLaws 
 side_laws Buy n s l = l.buys
 side_laws Offer n s l = l.offers
 
-top-some : (o : Order) (xs : List Order) → some_of (numbered o.number) (o ∷ xs) ≡ true
+top-some : (o : Order) (xs : List Order) → list_any (numbered o.number) (o ∷ xs) ≡ true
 top-some o xs = rw (eq-eqb o.number o.number refl) refl
 
 top-gone : (o : Order) (xs : List Order) → Free o.number xs → without o.number (o ∷ xs) ≡ xs
@@ -29,25 +29,25 @@ top-gone o xs f =
 pub top_taken : (v : Side) (s : Sides) (o : Order) (xs : List Order) → Apart (standing s) → of_side v s ≡ o ∷ xs → take_from o.number s ≡ with_side v xs s
 top_taken Buy s o xs h e =
     let k = o.number in
-    let some : some_of (numbered k) s.buys ≡ true = ap (some_of (numbered k)) e ∙ top-some o xs in
+    let some : list_any (numbered k) s.buys ≡ true = ap (list_any (numbered k)) e ∙ top-some o xs in
     let own : Apart (o ∷ xs) = subst Apart e (apart-left s.buys s.offers h) in
     sides-same (without k s.buys) (without k s.offers) xs s.offers
     (ap (without k) e ∙ top-gone o xs own.0)
     (sym (free-same k s.offers (apart-cross k s.buys s.offers h some)))
 top_taken Offer s o xs h e =
     let k = o.number in
-    let some : some_of (numbered k) s.offers ≡ true = ap (some_of (numbered k)) e ∙ top-some o xs in
+    let some : list_any (numbered k) s.offers ≡ true = ap (list_any (numbered k)) e ∙ top-some o xs in
     let own : Apart (o ∷ xs) = subst Apart e (apart-right s.buys s.offers h) in
     sides-same (without k s.buys) (without k s.offers) s.buys xs
     (sym (free-same k s.buys (apart-cross-back k s.buys s.offers h some)))
     (ap (without k) e ∙ top-gone o xs own.0)
 
 -- `next` with no priority
-pub top-none : (xs : List Order) (v : Side) → None ≡ first_of (is_behind v None) xs → xs ≡ []
+pub top-none : (xs : List Order) (v : Side) → None ≡ find (is_behind v None) xs → xs ≡ []
 top-none [] v e = refl
 top-none (x ∷ xs) v e = absurd (let z : ◌≡◌ {A = ℕ} 0 1 = cc in omega arith)
 
-pub top-some-is : (xs : List Order) (v : Side) (o : Order) → Some o ≡ first_of (is_behind v None) xs → (ys : List Order) × (xs ≡ o ∷ ys)
+pub top-some-is : (xs : List Order) (v : Side) (o : Order) → Some o ≡ find (is_behind v None) xs → (ys : List Order) × (xs ≡ o ∷ ys)
 top-some-is [] v o e = absurd (let z : ◌≡◌ {A = ℕ} 0 1 = cc in omega arith)
 top-some-is (x ∷ xs) v o e = let q : x ≡ o = cc in (xs, ap (λ y. y ∷ xs) q)
 

@@ -1,9 +1,9 @@
 -- For code above any sheet, a walk along a side: the next order behind one, and an order taken out or replaced where it stands.
-use Rattle.std.proofs.Common.{◌≡◌, ℕ, Bool, true, false, cond, not, List, [], ◌∷◌, ◌++◌, Some, None, filter, sym, refl, ap, ◌∙◌, subst, ⊎_elim}
-use Rattle.std.specs.List.{AllByRecursion}
+use Rattle.std.proofs.Common.{◌||◌, ◌≡◌, ℕ, Bool, true, false, cond, not, List, [], ◌∷◌, ◌++◌, Some, None, filter, sym, refl, ap, ◌∙◌, subst, ⊎_elim}
+use Rattle.std.specs.List.{AllByRecursion, find, list_any}
 use Rattle.std.proofs.lemmas.Bool.{both_ways, cases_Bool, eq-eqb, cond-true, cond-false, not_from_true}
 use Rattle.std.proofs.lemmas.List.Elements.{filter-append}
-use Rattle.ordered.specs.Sorting.{insert_by, Sorted, first_of, some_of}
+use Rattle.ordered.specs.Sorting.{insert_by, Sorted}
 use Rattle.market.specs.declared.order.Order.{Order}
 use Rattle.market.specs.declared.order.Side.{Side}
 use Rattle.market.specs.declared.order.Side.TheVariants.{Buy, Offer}
@@ -22,10 +22,10 @@ kept-all : {X : Type 0} (p : X → Bool) (xs : List X) → AllByRecursion (λ x.
 kept-all p [] h = refl
 kept-all p (x ∷ xs) h = rw h.0 (ap (λ ys. x ∷ ys) (kept-all p xs h.1))
 
-first-kept : {X : Type 0} (p : X → Bool) (xs : List X) → first_of p xs ≡ first_of (λ _. true) (filter p xs)
+first-kept : {X : Type 0} (p : X → Bool) (xs : List X) → find p xs ≡ find (λ _. true) (filter p xs)
 first-kept p [] = refl
 first-kept p (x ∷ xs) =
-    elim (p x) as (λ b. cond b (Some x) (first_of p xs) ≡ first_of (λ _. true) (cond b (x ∷ filter p xs) (filter p xs)))
+    elim (p x) as (λ b. cond b (Some x) (find p xs) ≡ find (λ _. true) (cond b (x ∷ filter p xs) (filter p xs)))
     [ true ↦ refl | false ↦ first-kept p xs ]
 
 -- what is ahead is not behind
@@ -46,18 +46,18 @@ behind_those v (x ∷ xs) ys o h =
     (outranked v x o (all_right (λ y. outranks v x y ≡ true) xs (o ∷ ys) h.0).0)
     ∙ behind_those v xs ys o h.1
 
-pub next-after : (v : Side) (n : ℕ) (s : Sides) (xs ys : List Order) (o : Order) → SheetLaws n s → of_side v s ≡ xs ++ o ∷ ys → next_in v (Some (priority_of o)) s ≡ first_of (is_behind v None) ys
+pub next-after : (v : Side) (n : ℕ) (s : Sides) (xs ys : List Order) (o : Order) → SheetLaws n s → of_side v s ≡ xs ++ o ∷ ys → next_in v (Some (priority_of o)) s ≡ find (is_behind v None) ys
 next-after v n s xs ys o l e =
-    ap (first_of (outranks v o)) e
+    ap (find (outranks v o)) e
     ∙ first-kept (outranks v o) (xs ++ o ∷ ys)
-    ∙ ap (first_of (λ _. true)) (behind_those v xs ys o (subst (Sorted (outranks v)) e (side_laws v n s l).sorted))
+    ∙ ap (find (λ _. true)) (behind_those v xs ys o (subst (Sorted (outranks v)) e (side_laws v n s l).sorted))
 
 -- ---- taken out where it stands
 
-some-mid : (o : Order) (xs ys : List Order) → some_of (numbered o.number) (xs ++ o ∷ ys) ≡ true
-some-mid o [] ys = cond-true (numbered o.number o) true (some_of (numbered o.number) ys) (eq-eqb o.number o.number refl)
+some-mid : (o : Order) (xs ys : List Order) → list_any (numbered o.number) (xs ++ o ∷ ys) ≡ true
+some-mid o [] ys = ap (λ b. b || list_any (numbered o.number) ys) (eq-eqb o.number o.number refl)
 some-mid o (x ∷ xs) ys =
-    elim (numbered o.number x) as (λ b. cond b true (some_of (numbered o.number) (xs ++ o ∷ ys)) ≡ true)
+    elim (numbered o.number x) as (λ b. (b || list_any (numbered o.number) (xs ++ o ∷ ys)) ≡ true)
     [ true ↦ refl | false ↦ some-mid o xs ys ]
 
 top-gone : (o : Order) (xs : List Order) → without o.number (o ∷ xs) ≡ without o.number xs
@@ -83,12 +83,12 @@ taken_at Buy s xs ys o h e =
     let own : Apart (xs ++ o ∷ ys) = subst Apart e (apart-left s.buys s.offers h) in
     sides-same (without k s.buys) (without k s.offers) (xs ++ ys) s.offers
     (ap (without k) e ∙ gone_mid o xs ys own)
-    (sym (free-same k s.offers (apart-cross k s.buys s.offers h (ap (some_of (numbered k)) e ∙ some-mid o xs ys))))
+    (sym (free-same k s.offers (apart-cross k s.buys s.offers h (ap (list_any (numbered k)) e ∙ some-mid o xs ys))))
 taken_at Offer s xs ys o h e =
     let k = o.number in
     let own : Apart (xs ++ o ∷ ys) = subst Apart e (apart-right s.buys s.offers h) in
     sides-same (without k s.buys) (without k s.offers) s.buys (xs ++ ys)
-    (sym (free-same k s.buys (apart-cross-back k s.buys s.offers h (ap (some_of (numbered k)) e ∙ some-mid o xs ys))))
+    (sym (free-same k s.buys (apart-cross-back k s.buys s.offers h (ap (list_any (numbered k)) e ∙ some-mid o xs ys))))
     (ap (without k) e ∙ gone_mid o xs ys own)
 
 -- ---- replaced where it stands, at the same priority
@@ -125,4 +125,4 @@ replaced_at v n s xs ys o p l e side same =
 pub replaced_fits : (v : Side) (n : ℕ) (s : Sides) (xs ys : List Order) (o p : Order) → of_side v s ≡ xs ++ o ∷ ys → p.side ≡ v → p.number ≡ o.number → full n p s ≡ false
 replaced_fits v n s xs ys o p e side number =
     ap (λ (w : Side). over n p.number (of_side w s)) side
-    ∙ over-some n p.number (of_side v s) (ap (λ (k : ℕ). some_of (numbered k) (of_side v s)) number ∙ ap (some_of (numbered o.number)) e ∙ some-mid o xs ys)
+    ∙ over-some n p.number (of_side v s) (ap (λ (k : ℕ). list_any (numbered k) (of_side v s)) number ∙ ap (list_any (numbered o.number)) e ∙ some-mid o xs ys)

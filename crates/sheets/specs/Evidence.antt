@@ -1,11 +1,12 @@
 -- That the two sheets keep the laws: the evidence that their ghost members `laws` and `stored` give. A reader need not follow it.
 use Rattle.std.specs.Prelude.{◌≡◌, ℕ, zero, suc, ◌^◌, Bool, true, false, cond, not, ◌&&◌, List, [], ◌∷◌, ◌++◌, length, take, filter, nat_le, nat_lt, refl}
 use Rattle.std.proofs.Common.{ap, ap₂, ◌∙◌, ⊎_elim}
-use Rattle.std.specs.List.{AllByRecursion}
+use Rattle.std.specs.List.{AllByRecursion, list_all, list_any}
 use Rattle.std.proofs.lemmas.List.{append-nil}
 use Rattle.std.proofs.lemmas.List.Elements.{filter-append}
 use Rattle.std.proofs.lemmas.Bool.{and_parts, ltb-true, leb-true, eq-eqb, not-true, both_ways, cases_Bool}
-use Rattle.ordered.specs.Sorting.{some_of, sort_by, Sorted}
+use Rattle.ordered.specs.Sorting.{sort_by, Sorted}
+use Rattle.ordered.specs.Meaning.{lent}
 use Rattle.ordered.proofs.Sorts.{sort_sorted}
 use Rattle.market.specs.declared.order.Order.{Order}
 use Rattle.market.specs.declared.order.Side.{Side}
@@ -14,22 +15,22 @@ use Rattle.sheets.specs.declared.priority.PrioritySheet.{PrioritySheet}
 use Rattle.sheets.specs.declared.arrival.ArrivalSheet.{ArrivalSheet}
 use Rattle.sheets.specs.Sides.{Sides, sides_of, standing, numbered, same_side, on, outranks}
 use Rattle.sheets.specs.Rows.{Row, marked, occupied, line, arranged}
-use Rattle.sheets.specs.Tests.{all_of, is_sorted, is_apart, is_bounded, is_line, is_sheet}
+use Rattle.sheets.specs.Tests.{is_sorted, is_apart, is_bounded, is_line, is_sheet}
 use Rattle.sheets.specs.Laws.{Free, Apart, Bounded, LineLaws, SheetLaws}
-use Rattle.sheets.specs.Held.{held_by_priority, rows_by_priority, held_by_arrival, rows_by_arrival}
+use Rattle.sheets.specs.Held.{rows_of, held_by_priority, rows_by_priority, held_by_arrival, rows_by_arrival}
 
 -- ---- what the test tells
 
 -- each test of an element says a fact of it
-pub all_from : {X : Type 0} (test : X → Bool) (P : X → Type 0) → ((x : X) → test x ≡ true → P x) → (xs : List X) → all_of test xs ≡ true → AllByRecursion P xs
+pub all_from : {X : Type 0} (test : X → Bool) (P : X → Type 0) → ((x : X) → test x ≡ true → P x) → (xs : List X) → list_all test xs ≡ true → AllByRecursion P xs
 all_from test P says [] e = tt
-all_from test P says (x ∷ xs) e = let p = and_parts (test x) (all_of test xs) e in (says x p.0, all_from test P says xs p.1)
+all_from test P says (x ∷ xs) e = let p = and_parts (test x) (list_all test xs) e in (says x p.0, all_from test P says xs p.1)
 
 -- the test of order
 pub sorted-from : {X : Type 0} (ahead : X → X → Bool) (xs : List X) → is_sorted ahead xs ≡ true → Sorted ahead xs
 sorted-from ahead [] e = tt
 sorted-from ahead (x ∷ xs) e =
-    let p = and_parts (all_of (ahead x) xs) (is_sorted ahead xs) e in
+    let p = and_parts (list_all (ahead x) xs) (is_sorted ahead xs) e in
     (all_from (ahead x) (λ y. ahead x y ≡ true) (λ y h. h) xs p.0, sorted-from ahead xs p.1)
 
 -- the test of a side
@@ -40,11 +41,11 @@ same-side Offer Buy e = absurd (both_ways false refl e)
 same-side Offer Offer e = refl
 
 -- the test of a number
-pub free-from : (n : ℕ) (xs : List Order) → some_of (numbered n) xs ≡ false → Free n xs
+pub free-from : (n : ℕ) (xs : List Order) → list_any (numbered n) xs ≡ false → Free n xs
 free-from n [] e = tt
 free-from n (x ∷ xs) e =
     ⊎_elim
-    (λ t. absurd (both_ways (some_of (numbered n) (x ∷ xs)) e (rw t refl)))
+    (λ t. absurd (both_ways (list_any (numbered n) (x ∷ xs)) e (rw t refl)))
     (λ f. ((λ h. both_ways (numbered n x) f (eq-eqb x.number n h)), free-from n xs (rw f at e)))
     (cases_Bool (numbered n x))
 
@@ -52,8 +53,8 @@ free-from n (x ∷ xs) e =
 pub apart_from : (xs : List Order) → is_apart xs ≡ true → Apart xs
 apart_from [] e = tt
 apart_from (x ∷ xs) e =
-    let p = and_parts (not (some_of (numbered x.number) xs)) (is_apart xs) e in
-    (free-from x.number xs (not-true (some_of (numbered x.number) xs) p.0), apart_from xs p.1)
+    let p = and_parts (not (list_any (numbered x.number) xs)) (is_apart xs) e in
+    (free-from x.number xs (not-true (list_any (numbered x.number) xs) p.0), apart_from xs p.1)
 
 -- the test of 32 bits
 pub bounded-from : (o : Order) → is_bounded o ≡ true → Bounded o
@@ -66,9 +67,9 @@ bounded-from o e =
 -- the test of one side of a sheet
 pub line-from : (v : Side) (n : ℕ) (xs : List Order) → is_line v n xs ≡ true → LineLaws v n xs
 line-from v n xs e =
-    let p = and_parts (nat_le (length xs) n && all_of (on v) xs) (is_sorted (outranks v) xs && all_of is_bounded xs) e in
-    let a = and_parts (nat_le (length xs) n) (all_of (on v) xs) p.0 in
-    let b = and_parts (is_sorted (outranks v) xs) (all_of is_bounded xs) p.1 in
+    let p = and_parts (nat_le (length xs) n && list_all (on v) xs) (is_sorted (outranks v) xs && list_all is_bounded xs) e in
+    let a = and_parts (nat_le (length xs) n) (list_all (on v) xs) p.0 in
+    let b = and_parts (is_sorted (outranks v) xs) (list_all is_bounded xs) p.1 in
     record {
       fits = leb-true (length xs) n a.0;
       sided = all_from (on v) (λ o. o.side ≡ v) (λ o. same-side v o.side) xs a.1;
@@ -137,8 +138,9 @@ priority_laws s = lawful s.capacity (held_by_priority s) s.lawful
 -- its rows hold its orders
 pub priority_stored : (s : PrioritySheet) → arranged (occupied (rows_by_priority s)) ≡ held_by_priority s
 priority_stored s =
-    ap arranged (occupied-append (marked s.buys.len s.buys.rows.now) (marked s.offers.len s.offers.rows.now)
-    ∙ ap₂ (λ (x y : List Order). x ++ y) (occupied-marked s.buys.len s.buys.rows.now) (occupied-marked s.offers.len s.offers.rows.now))
+    let b = lent s.buys in
+    let a = lent s.offers in
+    ap arranged (occupied-append (rows_of b) (rows_of a) ∙ ap₂ (λ (x y : List Order). x ++ y) (occupied-marked b.len b.rows.now) (occupied-marked a.len a.rows.now))
     ∙ arranged-sides s.capacity (held_by_priority s) (priority_laws s)
 
 -- the laws of the arrival sheet
@@ -147,4 +149,4 @@ arrival_laws s = lawful s.capacity (held_by_arrival s) s.lawful
 
 -- its rows hold its orders
 pub arrival_stored : (s : ArrivalSheet) → arranged (occupied (rows_by_arrival s)) ≡ held_by_arrival s
-arrival_stored s = ap arranged (occupied-marked s.len s.rows.now)
+arrival_stored s = ap arranged (occupied-marked s.orders.len s.orders.rows.now)

@@ -1,6 +1,7 @@
 -- What an order sheet means: the orders of each side in the order of their priority. No number stands twice (Laws).
 use Rattle.std.specs.Prelude.{ℕ, Bool, true, false, cond, not, ◌&&◌, List, ◌++◌, length, Some, None, filter, Option, ◌==◌, nat_le}
-use Rattle.ordered.specs.Sorting.{insert_by, first_of, some_of}
+use Rattle.std.specs.List.{find, list_any}
+use Rattle.ordered.specs.Sorting.{insert_by}
 use Rattle.market.specs.declared.order.Order.{Order}
 use Rattle.market.specs.declared.order.Side.{Side}
 use Rattle.market.specs.declared.order.Side.TheVariants.{Buy, Offer}
@@ -53,7 +54,7 @@ outranks v x y = leads v (priority_of x) (priority_of y)
 
 -- find: the order of number n
 abbrev pub find_in : ℕ → Sides → Option Order
-find_in n s = first_of (numbered n) (standing s)
+find_in n s = find (numbered n) (standing s)
 
 -- whether an order of side v comes behind the priority given, if one is
 abbrev pub is_behind : Side → Option Priority → Order → Bool
@@ -62,7 +63,7 @@ is_behind v (Some p) o = leads v p (priority_of o)
 
 -- next: the first order of side v, or the first behind the priority given
 abbrev pub next_in : Side → Option Priority → Sides → Option Order
-next_in v p s = first_of (is_behind v p) (of_side v s)
+next_in v p s = find (is_behind v p) (of_side v s)
 
 -- ---- the changes
 
@@ -84,7 +85,7 @@ put_in o s = sides_of (joined Buy o (without o.number s.buys)) (joined Offer o (
 
 -- whether a list holds n orders or more, and none of number k
 abbrev pub over : ℕ → ℕ → List Order → Bool
-over n k xs = nat_le n (length xs) && not (some_of (numbered k) xs)
+over n k xs = nat_le n (length xs) && not (list_any (numbered k) xs)
 
 -- whether a put is refused, at n orders a side: its number does not stand on its side, which is full
 abbrev pub full : ℕ → Order → Sides → Bool

@@ -41,38 +41,33 @@ mod tests {
         assert_eq!(rt; sheet.count(), 0);
     }
 
-    // A put, what it changes where it is accepted, and what it leaves where it is refused.
-    fn puts<S: OrderSheet>(
-        rt: &impl Abort,
-        sheet: &mut S,
-        order: Order,
-        accepted: bool,
-    ) -> Result<(), Fail> {
+    // A put that is accepted.
+    fn puts<S: OrderSheet>(rt: &impl Abort, sheet: &mut S, order: Order) {
+        assert_eq!(rt; sheet.put(order), Ok(()));
+        assert_eq!(rt; sheet.find(order.number), Some(order));
+    }
+
+    // A put that is refused, and leaves the sheet as it was.
+    fn refuses<S: OrderSheet>(rt: &impl Abort, sheet: &mut S, order: Order) {
         let before = sheet.find(order.number);
         let count = sheet.count();
-        if accepted {
-            assert_eq!(rt; sheet.put(order), Ok(()));
-            assert_eq!(rt; sheet.find(order.number), Some(order));
-            return Ok(());
-        }
         assert_eq!(rt; sheet.put(order), Err(SideFull));
         assert_eq!(rt; sheet.find(order.number), before);
         assert_eq!(rt; sheet.count(), count);
-        Ok(())
     }
 
     // Both sides filled to the last place, and emptied again.
-    fn fills<S: OrderSheet>(rt: &impl Abort, sheet: &mut S, capacity: u32) -> Result<(), Fail> {
+    fn fills<S: OrderSheet>(rt: &impl Abort, sheet: &mut S, capacity: u32) {
         assert!(rt; capacity <= 2_048);
         for i in 0..capacity {
-            puts(rt, sheet, limit(2 * i + 1, Side::Buy, 100, i), true)?;
-            puts(rt, sheet, limit(2 * i + 2, Side::Offer, 100, i), true)?;
+            puts(rt, sheet, limit(2 * i + 1, Side::Buy, 100, i));
+            puts(rt, sheet, limit(2 * i + 2, Side::Offer, 100, i));
             assert_eq!(rt; sheet.count(), 2 * i as usize + 2);
         }
-        puts(rt, sheet, market(9_999, Side::Buy, 0), false)?;
-        puts(rt, sheet, market(9_999, Side::Offer, 0), false)?;
+        refuses(rt, sheet, market(9_999, Side::Buy, 0));
+        refuses(rt, sheet, market(9_999, Side::Offer, 0));
         if capacity > 0 {
-            replaces_when_full(rt, sheet)?;
+            replaces_when_full(rt, sheet);
         }
         assert_eq!(rt; sheet.count(), 2 * capacity as usize);
         for i in 0..capacity {
@@ -87,27 +82,26 @@ mod tests {
             );
         }
         is_empty(rt, sheet);
-        Ok(())
     }
 
     // Both sides are full, order 1 is a buy and order 2 an offer: a number keeps its place on its own
     // side, and needs one on the other.
-    fn replaces_when_full<S: OrderSheet>(rt: &impl Abort, sheet: &mut S) -> Result<(), Fail> {
-        puts(rt, sheet, limit(1, Side::Buy, 101, 9), true)?;
+    fn replaces_when_full<S: OrderSheet>(rt: &impl Abort, sheet: &mut S) {
+        puts(rt, sheet, limit(1, Side::Buy, 101, 9));
         assert_eq!(rt;
             sheet.next(Side::Buy, None),
             Some(limit(1, Side::Buy, 101, 9))
         );
-        puts(rt, sheet, limit(1, Side::Offer, 101, 9), false)?;
+        refuses(rt, sheet, limit(1, Side::Offer, 101, 9));
         assert_eq!(rt; sheet.take(2), Some(limit(2, Side::Offer, 100, 0)));
-        puts(rt, sheet, market(1, Side::Offer, 9), true)?;
+        puts(rt, sheet, market(1, Side::Offer, 9));
         assert_eq!(rt;
             sheet.next(Side::Offer, None),
             Some(market(1, Side::Offer, 9))
         );
-        puts(rt, sheet, limit(2, Side::Offer, 100, 0), false)?;
-        puts(rt, sheet, limit(1, Side::Buy, 100, 0), true)?;
-        puts(rt, sheet, limit(2, Side::Offer, 100, 0), true)
+        refuses(rt, sheet, limit(2, Side::Offer, 100, 0));
+        puts(rt, sheet, limit(1, Side::Buy, 100, 0));
+        puts(rt, sheet, limit(2, Side::Offer, 100, 0));
     }
 
     // Six orders a side, put in no order: market among limit orders, equal prices, equal ranks.
@@ -121,7 +115,7 @@ mod tests {
                 limit(n + 4, side, 100, 4),
                 market(n + 1, side, 2),
             ] {
-                puts(rt, sheet, order, true)?;
+                puts(rt, sheet, order);
             }
         }
         assert_eq!(rt; sheet.count(), 12);
@@ -138,11 +132,11 @@ mod tests {
 
     // Replacements take their new place, on their own side and on the other.
     fn moves<S: OrderSheet>(rt: &impl Abort, sheet: &mut S) -> Result<(), Fail> {
-        puts(rt, sheet, limit(5, Side::Buy, 103, 20), true)?;
+        puts(rt, sheet, limit(5, Side::Buy, 103, 20));
         walks(rt, sheet, Side::Buy, [1, 8, 5, 2, 3, 4])?;
         assert_eq!(rt; sheet.take(15), Some(limit(15, Side::Offer, 100, 9)));
-        puts(rt, sheet, limit(8, Side::Offer, 100, 4), true)?;
-        puts(rt, sheet, market(15, Side::Buy, 1), true)?;
+        puts(rt, sheet, limit(8, Side::Offer, 100, 4));
+        puts(rt, sheet, market(15, Side::Buy, 1));
         assert_eq!(rt; sheet.count(), 12);
         walks(rt, sheet, Side::Buy, [15, 1, 5, 2, 3, 4])?;
         walks(rt, sheet, Side::Offer, [11, 18, 8, 13, 14, 12])
@@ -166,47 +160,46 @@ mod tests {
         Ok(())
     }
 
-    // The next order behind a priority before, at, between and past those that stand; 0 for none.
+    // A side, a priority, and the number of the next order behind it among those of `ranks`: before,
+    // at, between and past those that stand; 0 for none.
+    const STEPS: [(Side, Kind, u32, u32, u32, u32); 26] = [
+        (Side::Buy, Kind::Market, 0, 1, 99, 1),
+        (Side::Buy, Kind::Market, 0, 2, 0, 1),
+        (Side::Buy, Kind::Market, 0, 2, 1, 8),
+        (Side::Buy, Kind::Market, 0, 3, 0, 8),
+        (Side::Buy, Kind::Market, 0, 7, 8, 2),
+        (Side::Buy, Kind::Limit, 103, 99, 99, 2),
+        (Side::Buy, Kind::Limit, 102, 12, 1, 2),
+        (Side::Buy, Kind::Limit, 102, 12, 2, 3),
+        (Side::Buy, Kind::Limit, 101, 0, 0, 3),
+        (Side::Buy, Kind::Limit, 100, 3, 99, 3),
+        (Side::Buy, Kind::Limit, 100, 4, 3, 4),
+        (Side::Buy, Kind::Limit, 100, 4, 4, 5),
+        (Side::Buy, Kind::Limit, 100, 9, 4, 5),
+        (Side::Buy, Kind::Limit, 100, 9, 5, 0),
+        (Side::Buy, Kind::Limit, 99, 0, 0, 0),
+        (Side::Offer, Kind::Market, 0, 2, 10, 11),
+        (Side::Offer, Kind::Market, 0, 2, 11, 18),
+        (Side::Offer, Kind::Market, 0, 8, 0, 13),
+        (Side::Offer, Kind::Limit, 99, 99, 99, 13),
+        (Side::Offer, Kind::Limit, 100, 4, 13, 14),
+        (Side::Offer, Kind::Limit, 100, 4, 14, 15),
+        (Side::Offer, Kind::Limit, 100, 9, 15, 12),
+        (Side::Offer, Kind::Limit, 101, 0, 0, 12),
+        (Side::Offer, Kind::Limit, 102, 12, 11, 12),
+        (Side::Offer, Kind::Limit, 102, 12, 12, 0),
+        (Side::Offer, Kind::Limit, 103, 0, 0, 0),
+    ];
+
     fn steps_between<S: OrderSheet>(rt: &impl Abort, sheet: &S) {
-        let table = [
-            (Side::Buy, Kind::Market, 0, 1, 99, 1),
-            (Side::Buy, Kind::Market, 0, 2, 0, 1),
-            (Side::Buy, Kind::Market, 0, 2, 1, 8),
-            (Side::Buy, Kind::Market, 0, 3, 0, 8),
-            (Side::Buy, Kind::Market, 0, 7, 8, 2),
-            (Side::Buy, Kind::Limit, 103, 99, 99, 2),
-            (Side::Buy, Kind::Limit, 102, 12, 1, 2),
-            (Side::Buy, Kind::Limit, 102, 12, 2, 3),
-            (Side::Buy, Kind::Limit, 101, 0, 0, 3),
-            (Side::Buy, Kind::Limit, 100, 3, 99, 3),
-            (Side::Buy, Kind::Limit, 100, 4, 3, 4),
-            (Side::Buy, Kind::Limit, 100, 4, 4, 5),
-            (Side::Buy, Kind::Limit, 100, 9, 4, 5),
-            (Side::Buy, Kind::Limit, 100, 9, 5, 0),
-            (Side::Buy, Kind::Limit, 99, 0, 0, 0),
-            (Side::Offer, Kind::Market, 0, 2, 10, 11),
-            (Side::Offer, Kind::Market, 0, 2, 11, 18),
-            (Side::Offer, Kind::Market, 0, 8, 0, 13),
-            (Side::Offer, Kind::Limit, 99, 99, 99, 13),
-            (Side::Offer, Kind::Limit, 100, 4, 13, 14),
-            (Side::Offer, Kind::Limit, 100, 4, 14, 15),
-            (Side::Offer, Kind::Limit, 100, 9, 15, 12),
-            (Side::Offer, Kind::Limit, 101, 0, 0, 12),
-            (Side::Offer, Kind::Limit, 102, 12, 11, 12),
-            (Side::Offer, Kind::Limit, 102, 12, 12, 0),
-            (Side::Offer, Kind::Limit, 103, 0, 0, 0),
-        ];
-        for (side, kind, price, rank, number, expected) in table {
+        for (side, kind, price, rank, number, expected) in STEPS {
             let at = Priority {
                 kind,
                 price,
                 rank,
                 number,
             };
-            let found = match sheet.next(side, Some(at)) {
-                Some(order) => order.number,
-                None => 0,
-            };
+            let found = sheet.next(side, Some(at)).map_or(0, |order| order.number);
             assert_eq!(rt; found, expected);
         }
     }
@@ -214,7 +207,7 @@ mod tests {
     // What every sheet of that capacity does.
     fn exercise<S: OrderSheet>(rt: &impl Abort, sheet: &mut S, capacity: u32) -> Result<(), Fail> {
         is_empty(rt, sheet);
-        fills(rt, sheet, capacity)?;
+        fills(rt, sheet, capacity);
         if capacity >= 6 {
             ranks(rt, sheet)?;
         }

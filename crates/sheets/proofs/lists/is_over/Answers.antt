@@ -1,15 +1,14 @@
-use Rattle.std.proofs.Common.{take, is_some, sym, ap, ◌∙◌, arith}
-use Rattle.std.proofs.lemmas.List.{length-take-le}
-use Rattle.ordered.proofs.Indexes.{some-index}
+use Rattle.std.proofs.Common.{◌≡◌, rules, tests}
+use Rattle.std.specs.List.{list_any}
+use Rattle.std.proofs.lemmas.Iterator.{YieldsList-from_slice}
+use Rattle.std.proofs.lemmas.Iterator.Search.{any_from_yields_List}
 use Rattle.sheets.specs.Sides.{numbered}
 use Rattle.sheets.proofs.Keeps.{over-full}
 use Rattle.sheets.proofs.lists.is_over.Goals as goal
 
-pub returns-then-list-capacity : goal.returns-then-list-capacity
-returns-then-list-capacity c =
-    let l = c.args.list.now in
+pub returns-then-orders-capacity : goal.returns-then-orders-capacity
+returns-then-orders-capacity c =
     let k = c.args.number in
-    let xs = take l.len l.rows.now in
-    let len = length-take-le l.len l.rows.now c.requires in
-    over-full c.args.capacity k xs (is_some c.position.result) c.is_none.result (omega arith)
-    (some-index (numbered k) xs ∙ ap is_some (sym c.position.ensures)) c.is_none.ensures
+    let xs = c.args.orders.now in
+    let any : c.any.result ≡ list_any (numbered k) xs = any_from_yields_List (numbered k) _ _ c.any.result c.any.ensures.ran (YieldsList-from_slice xs (cc)) (λ x b q e. search (rules, tests)) in
+    over-full c.args.capacity k xs c.any.result c.if-orders-capacity.true any

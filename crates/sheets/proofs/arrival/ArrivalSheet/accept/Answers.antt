@@ -1,57 +1,57 @@
-use Rattle.std.proofs.Common.{◌≡◌, ◌+◌, ◌<◌, ◌≤◌, true, List, length, take, sym, refl, ap, ◌∙◌, arith}
-use Rattle.std.proofs.lemmas.List.{length-take-le}
-use Rattle.ordered.proofs.Indexes.{some-missing}
-use Rattle.market.specs.declared.order.Order.{Order}
-use Rattle.sheets.specs.Sides.{numbered, put_in}
-use Rattle.sheets.specs.Rows.{put_of, arranged}
-use Rattle.sheets.specs.Tests.{is_apart, is_sheet}
-use Rattle.sheets.specs.Laws.{Apart, Bounded}
-use Rattle.sheets.specs.Held.{held_by_arrival}
-use Rattle.sheets.specs.Evidence.{apart_from, arrival_laws}
-use Rattle.sheets.proofs.Keeps.{tested, put-lawful, apart-to}
-use Rattle.sheets.proofs.Spares.{rows-kept}
-use Rattle.sheets.proofs.Lines.{arranged-put, apart-put, place-rows, rows-counted}
+use Rattle.std.proofs.Common.{◌≡◌, ◌+◌, ◌<◌, length, refl, sym, ap, ◌∙◌, arith}
+use Rattle.ordered.specs.Lent.{entries}
+use Rattle.sheets.specs.Sides.{numbered}
+use Rattle.sheets.specs.Rows.{arranged, put_of}
+use Rattle.sheets.specs.Laws.{Bounded}
+use Rattle.sheets.specs.Held.{arrivals}
+use Rattle.sheets.specs.Evidence.{arrival_laws}
+use Rattle.sheets.proofs.Numbers.{any-missing}
+use Rattle.sheets.proofs.Places.{found, row_put, row-behind}
+use Rattle.sheets.proofs.Lines.{arranged-put, place-rows}
+use Rattle.sheets.proofs.Arrivals.{apart-arrivals, lawful_put, kept_rows}
 use Rattle.sheets.proofs.arrival.ArrivalSheet.accept.Goals as goal
 
-pub store-requires : goal.store-requires
-store-requires c =
-    let s = c.args.self.now in
-    let o = c.args.order in
-    let xs = take s.len s.rows.now in
-    let l = length-take-le s.len s.rows.now s.fits in
-    record {
-      fits = s.fits;
-      index = c.index-at.ensures;
-      place = λ n.
-          let h : length xs < s.capacity + s.capacity = place-rows s.capacity o xs (arrival_laws s) c.requires (some-missing (numbered o.number) xs (sym n ∙ c.index-at.ensures)) in
-          omega (arith, s.both);
-    }
+pub set-requires : goal.set-requires
+set-requires c = (found (numbered c.args.order.number) (arrivals c.args.self.now) c.in-Some.at (sym c.in-Some.is ∙ c.index.ensures)).within
 
 pub invariant_of-self : goal.invariant_of-self
 invariant_of-self c =
     let s = c.args.self.now in
     let o = c.args.order in
-    let xs = take s.len s.rows.now in
-    let ys = take c.store.result c.store.new.rows in
-    let r = c.store.ensures in
-    let apart : Apart xs = apart_from xs s.apart in
+    let r = c.set.ensures in
     let small : Bounded o = record { number = omega arith; price = omega arith; rank = omega arith; quantity = omega arith } in
-    let short : c.store.result ≤ length c.store.new.rows = omega (arith, r.within, c.store.auto.rows) in
-    let still : is_apart ys ≡ true = ap is_apart r.held ∙ apart-to (put_of (numbered o.number) o xs) (apart-put o xs apart) in
-    let lawful : is_sheet s.capacity (arranged ys) ≡ true =
-    ap (λ (zs : List Order). is_sheet s.capacity (arranged zs)) r.held ∙ ap (is_sheet s.capacity) (arranged-put o xs apart)
-    ∙ tested s.capacity (put_in o (held_by_arrival s)) (put-lawful s.capacity o (held_by_arrival s) (arrival_laws s) small c.requires) in
-    record { both = c.store.auto.rows ∙ s.both; fits = short; counted = rows-counted c.store.result c.store.new.rows short; apart = still; lawful = lawful }
+    let l = lawful_put s c.set.new.self o c.requires small (r.entries ∙ row_put (numbered o.number) o (arrivals s) c.in-Some.at (sym c.in-Some.is ∙ c.index.ensures)) in
+    record { both = r.size ∙ s.both; apart = l.apart; lawful = l.sheet }
 
-pub returns : goal.returns
-returns c =
+pub push-requires : goal.push-requires
+push-requires c =
     let s = c.args.self.now in
     let o = c.args.order in
-    let xs = take s.len s.rows.now in
-    let r = c.store.ensures in
-    record {
-      after = ap arranged r.held ∙ arranged-put o xs (apart_from xs s.apart);
-      size = refl;
-      rows = rows-kept s.len c.store.result s.rows.now c.store.new.rows c.store.auto.rows r.past;
-      order = r.held;
-    }
+    let room : length (arrivals s) < s.capacity + s.capacity = place-rows s.capacity o (arrivals s) (arrival_laws s) c.requires (any-missing (numbered o.number) (arrivals s) (sym c.in-None.is ∙ c.index.ensures)) in
+    omega (arith, room, s.both)
+
+pub invariant_of-self-in-None : goal.invariant_of-self-in-None
+invariant_of-self-in-None c =
+    let s = c.args.self.now in
+    let o = c.args.order in
+    let r = c.push.ensures in
+    let small : Bounded o = record { number = omega arith; price = omega arith; rank = omega arith; quantity = omega arith } in
+    let l = lawful_put s c.push.new.self o c.requires small (r.entries ∙ row-behind (numbered o.number) o (arrivals s) (any-missing (numbered o.number) (arrivals s) (sym c.in-None.is ∙ c.index.ensures))) in
+    record { both = r.size ∙ s.both; apart = l.apart; lawful = l.sheet }
+
+pub returns-in-Some : goal.returns-in-Some
+returns-in-Some c =
+    let s = c.args.self.now in
+    let o = c.args.order in
+    let r = c.set.ensures in
+    let put : entries c.set.new.self ≡ put_of (numbered o.number) o (arrivals s) = r.entries ∙ row_put (numbered o.number) o (arrivals s) c.in-Some.at (sym c.in-Some.is ∙ c.index.ensures) in
+    record { after = ap arranged put ∙ arranged-put o (arrivals s) (apart-arrivals s); size = refl; rows = kept_rows s c.set.new.self r.size r.spare; order = put }
+
+pub returns-in-None : goal.returns-in-None
+returns-in-None c =
+    let s = c.args.self.now in
+    let o = c.args.order in
+    let r = c.push.ensures in
+    let put : entries c.push.new.self ≡ put_of (numbered o.number) o (arrivals s) =
+    r.entries ∙ row-behind (numbered o.number) o (arrivals s) (any-missing (numbered o.number) (arrivals s) (sym c.in-None.is ∙ c.index.ensures)) in
+    record { after = ap arranged put ∙ arranged-put o (arrivals s) (apart-arrivals s); size = refl; rows = kept_rows s c.push.new.self r.size r.spare; order = put }

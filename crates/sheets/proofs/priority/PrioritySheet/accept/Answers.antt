@@ -3,7 +3,7 @@ use Rattle.sheets.specs.Sides.{Sides, of_side, standing, take_from}
 use Rattle.sheets.specs.Laws.{Free}
 use Rattle.sheets.specs.Held.{held_by_priority}
 use Rattle.sheets.specs.Evidence.{priority_laws}
-use Rattle.sheets.proofs.Keeps.{added, taken_free, taken-place}
+use Rattle.sheets.proofs.Keeps.{taken_free, taken-place}
 use Rattle.sheets.proofs.PriorityLists.{sheet_kept, lists-further}
 use Rattle.sheets.proofs.priority.PrioritySheet.accept.Goals as goal
 
@@ -19,13 +19,9 @@ add-requires c =
       place = omega (arith, c.remove.ensures.size);
     }
 
-pub returns : goal.returns
-returns c =
+pub returns-clause-rows : goal.returns-clause-rows
+returns-clause-rows c =
     let s = c.args.self.now in
     let r = c.remove.ensures in
     let a = c.add.ensures in
-    record {
-      after = a.after ∙ ap (added c.args.order) r.after;
-      size = a.size ∙ r.size;
-      rows = sheet_kept s c.add.new.self (a.size ∙ r.size) (lists-further s c.remove.new.self c.add.new.self r.spare a.spare a.longer);
-    }
+    sheet_kept s c.add.new.self (a.size ∙ r.size) (lists-further s c.remove.new.self c.add.new.self r.spare a.spare a.longer)

@@ -1,54 +1,81 @@
-use Rattle.std.proofs.Common.{◌<◌, length, ◌∙◌, arith}
-use Rattle.ordered.specs.Meaning.{held}
+use Rattle.std.proofs.Common.{◌≡◌, List, refl, ap, ◌∙◌, arith}
+use Rattle.ordered.specs.Meaning.{held, lent}
+use Rattle.ordered.specs.Sorting.{insert_by}
+use Rattle.market.specs.declared.order.Order.{Order}
+use Rattle.market.specs.declared.order.Side.{Side}
 use Rattle.market.specs.declared.order.Side.TheVariants.{Buy, Offer}
-use Rattle.sheets.specs.Sides.{of_side}
+use Rattle.sheets.specs.Sides.{outranks, with_side}
 use Rattle.sheets.specs.Laws.{Bounded}
 use Rattle.sheets.specs.Held.{held_by_priority}
 use Rattle.sheets.specs.Evidence.{priority_laws}
-use Rattle.sheets.proofs.Keeps.{still-added}
-use Rattle.sheets.proofs.PriorityLists.{list_length, list-sorted, list-place}
+use Rattle.sheets.proofs.Keeps.{still-added, added-at}
+use Rattle.sheets.proofs.PriorityLists.{place-at, longer}
 use Rattle.sheets.proofs.priority.PrioritySheet.add.Goals as goal
 
 pub insert-requires : goal.insert-requires
 insert-requires c =
     let s = c.args.self.now in
-    let lt : s.buys.len < s.capacity = list-place Buy c.args.order s c.in-Buy.is c.requires.place in
-    record { fits = omega (arith, s.buys_rows); sorted = list-sorted Buy s }
+    let place = place-at Buy c.args.order s c.in-Buy.is c.requires.place in
+    omega (arith, place, s.buys_rows)
 
 pub invariant_of-self : goal.invariant_of-self
 invariant_of-self c =
     let s = c.args.self.now in
     let o = c.args.order in
     let r = c.insert.ensures in
-    let lt : s.buys.len < s.capacity = list-place Buy o s c.in-Buy.is c.requires.place in
-    let at : length (of_side Buy (held_by_priority s)) < s.capacity = omega (arith, list_length Buy s) in
     let small : Bounded o = record { number = omega arith; price = omega arith; rank = omega arith; quantity = omega arith } in
+    let held_is : held c.insert.new.self ≡ insert_by (outranks Buy) o (held s.buys) = r.held ∙ ap (λ (v : Side). insert_by (outranks v) o (held s.buys)) s.buys_by in
     record {
-      buys_rows = r.room ∙ s.buys_rows;
+      buys_by = r.ranking ∙ s.buys_by;
+      offers_by = s.offers_by;
+      buys_rows = r.size ∙ s.buys_rows;
       offers_rows = s.offers_rows;
-      buys_fit = omega (arith, r.more);
-      offers_fit = s.offers_fit;
-      lawful = still-added Buy s.capacity o (held_by_priority s) (held c.insert.new.self) c.in-Buy.is small c.requires.fresh at (priority_laws s) r.held;
+      lawful = still-added Buy s.capacity o (held_by_priority s) (held c.insert.new.self) c.in-Buy.is small c.requires.fresh (place-at Buy o s c.in-Buy.is c.requires.place) (priority_laws s) held_is;
+    }
+
+pub returns-in-Buy : goal.returns-in-Buy
+returns-in-Buy c =
+    let s = c.args.self.now in
+    let o = c.args.order in
+    let r = c.insert.ensures in
+    let held_is : held c.insert.new.self ≡ insert_by (outranks Buy) o (held s.buys) = r.held ∙ ap (λ (v : Side). insert_by (outranks v) o (held s.buys)) s.buys_by in
+    record {
+      after = ap (λ (xs : List Order). with_side Buy xs (held_by_priority s)) held_is ∙ added-at Buy o (held_by_priority s) c.in-Buy.is;
+      size = refl;
+      spare = (r.spare, refl);
+      longer = (longer (outranks Buy) o (lent s.buys) (lent c.insert.new.self) held_is, omega arith);
     }
 
 pub insert-requires-in-Offer : goal.insert-requires-in-Offer
 insert-requires-in-Offer c =
     let s = c.args.self.now in
-    let lt : s.offers.len < s.capacity = list-place Offer c.args.order s c.in-Offer.is c.requires.place in
-    record { fits = omega (arith, s.offers_rows); sorted = list-sorted Offer s }
+    let place = place-at Offer c.args.order s c.in-Offer.is c.requires.place in
+    omega (arith, place, s.offers_rows)
 
 pub invariant_of-self-in-Offer : goal.invariant_of-self-in-Offer
 invariant_of-self-in-Offer c =
     let s = c.args.self.now in
     let o = c.args.order in
     let r = c.insert-in-Offer.ensures in
-    let lt : s.offers.len < s.capacity = list-place Offer o s c.in-Offer.is c.requires.place in
-    let at : length (of_side Offer (held_by_priority s)) < s.capacity = omega (arith, list_length Offer s) in
     let small : Bounded o = record { number = omega arith; price = omega arith; rank = omega arith; quantity = omega arith } in
+    let held_is : held c.insert-in-Offer.new.self ≡ insert_by (outranks Offer) o (held s.offers) = r.held ∙ ap (λ (v : Side). insert_by (outranks v) o (held s.offers)) s.offers_by in
     record {
+      buys_by = s.buys_by;
+      offers_by = r.ranking ∙ s.offers_by;
       buys_rows = s.buys_rows;
-      offers_rows = r.room ∙ s.offers_rows;
-      buys_fit = s.buys_fit;
-      offers_fit = omega (arith, r.more);
-      lawful = still-added Offer s.capacity o (held_by_priority s) (held c.insert-in-Offer.new.self) c.in-Offer.is small c.requires.fresh at (priority_laws s) r.held;
+      offers_rows = r.size ∙ s.offers_rows;
+      lawful = still-added Offer s.capacity o (held_by_priority s) (held c.insert-in-Offer.new.self) c.in-Offer.is small c.requires.fresh (place-at Offer o s c.in-Offer.is c.requires.place) (priority_laws s) held_is;
+    }
+
+pub returns-in-Offer : goal.returns-in-Offer
+returns-in-Offer c =
+    let s = c.args.self.now in
+    let o = c.args.order in
+    let r = c.insert-in-Offer.ensures in
+    let held_is : held c.insert-in-Offer.new.self ≡ insert_by (outranks Offer) o (held s.offers) = r.held ∙ ap (λ (v : Side). insert_by (outranks v) o (held s.offers)) s.offers_by in
+    record {
+      after = ap (λ (xs : List Order). with_side Offer xs (held_by_priority s)) held_is ∙ added-at Offer o (held_by_priority s) c.in-Offer.is;
+      size = refl;
+      spare = (refl, r.spare);
+      longer = (omega arith, longer (outranks Offer) o (lent s.offers) (lent c.insert-in-Offer.new.self) held_is);
     }
