@@ -10,7 +10,7 @@ ghost use Rattle.book.specs.Books.{rule_of, setting_of, state_of, Took, Takes};
 use crate::checks::{check_price, check_quantity, check_start, loses_place, next_rank};
 use crate::clear::clear;
 use calls::{Answer, Call, Phase, Refusal};
-use market::{Kind, Order, Side};
+use market::{Order, Terms};
 use sheets::OrderSheet;
 use ticks::TickRule;
 
@@ -59,16 +59,16 @@ impl<R: TickRule, S: OrderSheet> Book<R, S> {
     }
 
     // A new order under the next rank, which is its number too.
-    fn enter(
-        &mut self,
-        side: Side,
-        kind: Kind,
-        price: u32,
-        quantity: u32,
-        account: [u8; 8],
-    ) -> Result<Answer, Refusal>
-        ensures { Took S.OrderSheet (enter_due (setting_of R.TickRule S.OrderSheet self.old) (state_of S.OrderSheet self.old) side kind price quantity account) (Enter side kind price quantity account) self.old result self.new }
+    fn enter(&mut self, terms: Terms<[u8; 8]>) -> Result<Answer, Refusal>
+        ensures { Took S.OrderSheet (enter_due (setting_of R.TickRule S.OrderSheet self.old) (state_of S.OrderSheet self.old) terms) (Enter terms) self.old result self.new }
     {
+        let Terms {
+            side,
+            kind,
+            price,
+            quantity,
+            account,
+        } = terms;
         check_quantity(quantity)?;
         check_price(&self.rule, kind, price)?;
         let rank = next_rank(self.used)?;
@@ -104,12 +104,12 @@ impl<R: TickRule, S: OrderSheet> Book<R, S> {
         };
         check_quantity(quantity)?;
         check_price(&self.rule, order.kind, price)?;
-        let mut used = self.used;
-        let mut rank = order.rank;
-        if loses_place(&order, price, quantity) {
-            used = next_rank(used)?;
-            rank = used;
-        }
+        let (rank, used) = if loses_place(&order, price, quantity) {
+            let next = next_rank(self.used)?;
+            (next, next)
+        } else {
+            (order.rank, self.used)
+        };
         self.sheet.put(Order {
             price,
             rank,
@@ -128,16 +128,7 @@ impl<R: TickRule, S: OrderSheet> Book<R, S> {
             (Phase::Shut, Call::Start { prior, last }) => self.start(prior, last),
             (Phase::Shut, _) => Err(Refusal::Shut),
             (Phase::Calling, Call::Start { .. }) => Err(Refusal::AlreadyCalling),
-            (
-                Phase::Calling,
-                Call::Enter {
-                    side,
-                    kind,
-                    price,
-                    quantity,
-                    account,
-                },
-            ) => self.enter(side, kind, price, quantity, account),
+            (Phase::Calling, Call::Enter(terms)) => self.enter(terms),
             (Phase::Calling, Call::Withdraw { number }) => self.withdraw(number),
             (
                 Phase::Calling,

@@ -1,9 +1,9 @@
 -- The rules of the book: which calls are refused, what the others answer, and how the book goes on.
 use Rattle.std.specs.Prelude.{◌≡◌, ℕ, ◌+◌, Bool, cond, not, ◌||◌, List, [], ◌∷◌, IfOk, Some, None, Ok, Err, Option, Result, ◌==◌, nat_le, nat_lt}
-use Rattle.market.specs.declared.order.Side.{Side}
 use Rattle.market.specs.declared.order.Kind.{Kind}
 use Rattle.market.specs.declared.order.Kind.TheVariants.{Limit, Market}
 use Rattle.market.specs.declared.order.Order.{Order}
+use Rattle.market.specs.declared.order.Terms.{Terms}
 use Rattle.ticks.specs.declared.rule.Cause.{Cause}
 use Rattle.ticks.specs.Causes.{letter_of}
 use Rattle.ticks.specs.Ticks.{admitted}
@@ -21,9 +21,9 @@ use Rattle.calls.specs.State.{Rule, Setting, State, with_orders}
 -- ---- orders
 
 -- a new order takes the next rank for its place in the queue and for its number
-abbrev pub new_order : ℕ → Side → Kind → ℕ → ℕ → List ℕ → Order
-new_order next side kind price q account =
-    record { number = next; side = side; kind = kind; price = price; rank = next; quantity = q; account = account }
+abbrev pub new_order : ℕ → Terms (List ℕ) → Order
+new_order next t =
+    record { number = next; side = t.side; kind = t.kind; price = t.price; rank = next; quantity = t.quantity; account = t.account }
 
 -- an order with another price, rank and quantity
 abbrev pub with_terms : Order → ℕ → ℕ → ℕ → Order
@@ -76,12 +76,12 @@ abbrev pub rank_due : ℕ → Option Listed
 rank_due used = refused_if (nat_le 1000000 used) 11
 
 -- enter: quantity, price, rank, and room for the new order on its side
-abbrev pub enter_due : Setting → State → Side → Kind → ℕ → ℕ → List ℕ → Option Listed
-enter_due g s side kind price q account =
-    first_fit (quantity_due q)
-    (first_fit (price_due g.rule kind price)
+abbrev pub enter_due : Setting → State → Terms (List ℕ) → Option Listed
+enter_due g s t =
+    first_fit (quantity_due t.quantity)
+    (first_fit (price_due g.rule t.kind t.price)
     (first_fit (rank_due s.used)
-    (refused_if (full g.room (new_order (s.used + 1) side kind price q account) s.sides) 12)))
+    (refused_if (full g.room (new_order (s.used + 1) t) s.sides) 12)))
 
 -- withdraw: a number that does not stand
 abbrev pub withdraw_due : Option Order → Option Listed
@@ -99,7 +99,7 @@ amend_due rule used (Some o) price q =
 -- a shut book takes start alone
 abbrev pub shut_due : Rule → Call → Option Listed
 shut_due rule (Start prior last) = start_due rule prior last
-shut_due rule (Enter side kind price q account) = Some (by 5)
+shut_due rule (Enter t) = Some (by 5)
 shut_due rule (Withdraw n) = Some (by 5)
 shut_due rule (Amend n price q) = Some (by 5)
 shut_due rule (Show n) = Some (by 5)
@@ -107,7 +107,7 @@ shut_due rule (Show n) = Some (by 5)
 -- a calling book takes all else
 abbrev pub calling_due : Setting → State → Call → Option Listed
 calling_due g s (Start prior last) = Some (by 6)
-calling_due g s (Enter side kind price q account) = enter_due g s side kind price q account
+calling_due g s (Enter t) = enter_due g s t
 calling_due g s (Withdraw n) = withdraw_due (find_in n s.sides)
 calling_due g s (Amend n price q) = amend_due g.rule s.used (find_in n s.sides) price q
 calling_due g s (Show n) = None
@@ -128,7 +128,7 @@ quantity_in (Some o) = o.quantity
 
 abbrev pub answer_to : State → Call → Answer
 answer_to s (Start prior last) = Started
-answer_to s (Enter side kind price q account) = Entered (s.used + 1)
+answer_to s (Enter t) = Entered (s.used + 1)
 answer_to s (Withdraw n) = Withdrawn (quantity_in (find_in n s.sides))
 answer_to s (Amend n price q) = Amended n
 answer_to s (Show n) = Shown (find_in n s.sides)
@@ -146,7 +146,7 @@ after_amend s (Some o) price q =
 
 abbrev pub after : State → Call → State
 after s (Start prior last) = record { phase = Calling; prior = prior; last = sale_of last; used = s.used; sides = s.sides }
-after s (Enter side kind price q account) = with_orders (s.used + 1) (put_in (new_order (s.used + 1) side kind price q account) s.sides) s
+after s (Enter t) = with_orders (s.used + 1) (put_in (new_order (s.used + 1) t) s.sides) s
 after s (Withdraw n) = with_orders s.used (take_from n s.sides) s
 after s (Amend n price q) = after_amend s (find_in n s.sides) price q
 after s (Show n) = s

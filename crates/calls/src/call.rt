@@ -1,15 +1,15 @@
 // The calls of a book and their answers.
-use market::{Kind, Order, Side};
+use market::{Order, Terms};
 
 /// A book is shut until it is started, and calling from then on.
-#[derive(Clone, Copy)]
+#[derive(Clone, Copy, PartialEq, Eq, Debug)]
 pub enum Phase {
     Shut,
     Calling,
 }
 
 /// What is asked of a book.
-#[derive(Clone, Copy)]
+#[derive(Clone, Copy, PartialEq, Debug)]
 pub enum Call {
     /// Opens the call with the prior price (the settlement or IPO price) and the last sale, 0 for none.
     Start {
@@ -17,13 +17,7 @@ pub enum Call {
         last: u32,
     },
     /// A new order; the price is 0 at a market order.
-    Enter {
-        side: Side,
-        kind: Kind,
-        price: u32,
-        quantity: u32,
-        account: [u8; 8],
-    },
+    Enter(Terms<[u8; 8]>),
     /// Takes an order out.
     Withdraw {
         number: u32,
