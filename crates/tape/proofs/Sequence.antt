@@ -1,6 +1,6 @@
 -- One record more on a tape.
-use Rattle.std.proofs.Common.{◌≡◌, ℕ, ◌+◌, ◌≤◌, List, [], ◌∷◌, ◌++◌, drop, Ok, ap, ◌∙◌, lit≤}
-use Rattle.tape.specs.Format.{Record, start, enter, withdraw, amend, decode, width}
+use Rattle.std.proofs.Common.{◌≡◌, ℕ, ◌+◌, ◌≤◌, List, [], ◌∷◌, ◌++◌, drop, Ok, ap, ◌∙◌, arith}
+use Rattle.tape.specs.Format.{Record, decode, width}
 use Rattle.tape.specs.Sequence.{Stand}
 
 pub stand-push : (tape : List ℕ) (i : ℕ) (cs : List Record) (j : ℕ) (c : Record) → Stand tape i cs j → decode (drop j tape) ≡ Ok c → Stand tape i (cs ++ c ∷ []) (j + width c)
@@ -9,7 +9,4 @@ stand-push tape i (x ∷ cs) j c r d = (r.0, stand-push tape (i + width x) cs j 
 
 -- a record has a byte
 pub width_some : (c : Record) → 1 ≤ width c
-width_some (start _ _) = lit≤ tt
-width_some (enter _ _ _ _ _) = lit≤ tt
-width_some (withdraw _) = lit≤ tt
-width_some (amend _ _ _) = lit≤ tt
+width_some c = grind arith

@@ -1,6 +1,7 @@
 -- What the code's values say in the words of the format.
 use Rattle.std.specs.Prelude.{◌≡◌, ℕ, ◌+◌, ◌<◌, ◌≤◌, Bool, true, cond, List, ◌++◌, length, take, drop, IfOk, Some, None, Ok, Err, Option, Result, ◌==◌, nat_le}
 use Rattle.std.specs.Borrow.{Bor}
+use Rattle.market.specs.declared.order.Terms.{Terms}
 use Rattle.tape.specs.declared.fault.TapeFault.{TapeFault}
 use Rattle.tape.specs.declared.fault.WriteFault.{WriteFault}
 use Rattle.tape.specs.declared.fault.WriteFault.TheVariants.{AccountLength, ShortOutput}
@@ -8,10 +9,14 @@ use Rattle.tape.specs.declared.command.Command.{Command}
 use Rattle.tape.specs.declared.command.Command.TheVariants.{Start, Enter, Withdraw, Amend}
 use Rattle.tape.specs.Format.{Record, start, enter, withdraw, amend, decode, encode, width}
 
+-- the record of an order's terms
+abbrev pub entered : Terms (Bor (List ℕ)) → Record
+entered t = enter t.side t.kind t.price t.quantity t.account.now
+
 -- the record that a command stands for
 abbrev pub view : Command → Record
 view (Start prior last) = start prior last
-view (Enter side kind price quantity account) = enter side kind price quantity account.now
+view (Enter t) = entered t
 view (Withdraw number) = withdraw number
 view (Amend number price quantity) = amend number price quantity
 
@@ -26,7 +31,7 @@ RestOf whole i rest = (rest.ref_ptr.0 ≡ whole.ref_ptr.0) × (rest.ref_ptr.1 �
 -- the account of a command that was read at i is a part of the tape
 abbrev pub Borrows : Bor (List ℕ) → ℕ → Command → Type 0
 Borrows tape i (Start prior last) = Unit {0}
-Borrows tape i (Enter side kind price quantity account) = PartOf tape (i + 11) 8 account
+Borrows tape i (Enter t) = PartOf tape (i + 11) 8 t.account
 Borrows tape i (Withdraw number) = Unit {0}
 Borrows tape i (Amend number price quantity) = Unit {0}
 

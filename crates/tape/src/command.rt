@@ -1,5 +1,5 @@
 // The commands of an order tape.
-use market::{Kind, Side};
+use market::Terms;
 
 /// One command. The account is a part of the tape that the command was read from; a command to be
 /// written may hold an account of any length, and is refused unless it has eight bytes.
@@ -9,13 +9,7 @@ pub enum Command<'a> {
         prior: u32,
         last: u32,
     },
-    Enter {
-        side: Side,
-        kind: Kind,
-        price: u32,
-        quantity: u32,
-        account: &'a [u8],
-    },
+    Enter(Terms<&'a [u8]>),
     Withdraw {
         number: u32,
     },

@@ -5,7 +5,7 @@ ghost use Rattle.tape.specs.Views.{view, Taken};
 
 use crate::command::Command;
 use crate::fault::TapeFault;
-use market::{Kind, Side};
+use market::{Kind, Side, Terms};
 
 fn side_of(byte: u8) -> Result<Side, TapeFault>
     ensures { result ≡ with_side byte Ok }
@@ -49,46 +49,20 @@ fn start<'a>(bytes: &'a [u8]) -> Result<(Command<'a>, &'a [u8]), TapeFault>
 fn enter<'a>(bytes: &'a [u8]) -> Result<(Command<'a>, &'a [u8]), TapeFault>
     ensures { Taken bytes.entry (enter_in bytes.now) result }
 {
-    let [
-        _,
-        side,
-        kind,
-        a,
-        b,
-        c,
-        d,
-        e,
-        f,
-        g,
-        h,
-        _,
-        _,
-        _,
-        _,
-        _,
-        _,
-        _,
-        _,
-        rest @ ..,
-    ] = bytes
-    else {
+    let [_, side, kind, a, b, c, d, e, f, g, h, rest @ ..] = bytes else {
         return Err(TapeFault::Truncated);
     };
-    let side = side_of(*side)?;
-    let kind = kind_of(*kind)?;
-    let price = word(a, b, c, d);
-    let quantity = word(e, f, g, h);
-    let account = &bytes[11..19];
-    Ok((
-        Command::Enter {
-            side,
-            kind,
-            price,
-            quantity,
-            account,
-        },
-        rest,
-    ))
+    if rest.len() < 8 {
+        return Err(TapeFault::Truncated);
+    }
+    let terms = Terms {
+        side: side_of(*side)?,
+        kind: kind_of(*kind)?,
+        price: word(a, b, c, d),
+        quantity: word(e, f, g, h),
+        account: &rest[..8],
+    };
+    Ok((Command::Enter(terms), &rest[8..]))
 }
 
 // A withdraw command.

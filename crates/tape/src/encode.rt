@@ -1,12 +1,12 @@
 // Writes a record to the front of an output.
-ghost use Rattle.std.specs.Prelude.{◌≡◌, ◌+◌, ◌^◌, ◌<◌, ◌≤◌, true, ◌++◌, length, drop, is_ok, if◌then◌else◌, Ok};
-ghost use borrow.Rule.Slice.PartMut.{put_mid};
-ghost use Rattle.tape.specs.Format.{decode, encode, width, word, side_byte, kind_byte};
-ghost use Rattle.tape.specs.Views.{view, has_account, written};
+ghost use Rattle.std.specs.Prelude.{◌≡◌, cond, true, ◌++◌, length, drop, is_ok, if◌then◌else◌, nat_le};
+ghost use Rattle.tape.specs.declared.fault.WriteFault.TheVariants.{ShortOutput};
+ghost use Rattle.tape.specs.Format.{decode, encode, width, side_byte, kind_byte};
+ghost use Rattle.tape.specs.Views.{view, entered, written};
 
 use crate::command::Command;
 use crate::fault::WriteFault;
-use market::{Kind, Side};
+use market::{Kind, Side, Terms};
 
 fn side_byte(side: Side) -> u8
     ensures { result ≡ side_byte side }
@@ -26,79 +26,36 @@ fn kind_byte(kind: Kind) -> u8
     }
 }
 
-// Whether the account of the command, if it has one, has eight bytes.
-fn has_account(command: &Command<'_>) -> bool
-    ensures { result ≡ has_account (view command.now) }
+// Copies the bytes to the front of the output, if they fit.
+fn put(out: &mut [u8], bytes: &[u8]) -> Result<usize, WriteFault>
+    ensures value { result ≡ cond (nat_le (length bytes.now) (length out.old)) (Ok (length bytes.now)) (Err ShortOutput) }
+    ensures after { out.new ≡ (if is_ok result then bytes.now ++ drop (length bytes.now) out.old else out.old) }
 {
-    match command {
-        Command::Enter { account, .. } => account.len() == 8,
-        _ => true,
+    let width = bytes.len();
+    if out.len() < width {
+        return Err(WriteFault::ShortOutput);
     }
+    out[..width].copy_from_slice(bytes);
+    Ok(width)
 }
 
-// How many bytes the command is written in.
-fn width_of(command: &Command<'_>) -> usize
-    ensures { result ≡ width (view command.now) }
+// Writes an enter command, if its account has eight bytes.
+fn put_enter(out: &mut [u8], terms: &Terms<&[u8]>) -> Result<usize, WriteFault>
+    ensures value { result ≡ written (entered terms.now) (length out.old) }
+    ensures after { out.new ≡ (if is_ok result then encode (entered terms.now) ++ drop (width (entered terms.now)) out.old else out.old) }
+    ensures back { is_ok result ≡ true → decode out.new ≡ Ok (entered terms.now) }
 {
-    match command {
-        Command::Start { .. } => 9,
-        Command::Enter { .. } => 19,
-        Command::Withdraw { .. } => 5,
-        Command::Amend { .. } => 13,
-    }
-}
-
-// Writes a number at a place.
-fn put_word(out: &mut [u8], at: usize, number: u32)
-    requires { at + 4 ≤ length out.old }
-    ensures after { out.new ≡ put_mid at 4 out.old (word number) }
-    ensures fits { number < 2 ^ 32 }
-{
-    out[at..at + 4].copy_from_slice(&number.to_be_bytes());
-}
-
-// Writes a command that has room in the output.
-fn put(out: &mut [u8], command: &Command<'_>)
-    requires account { has_account (view command.now) ≡ true }
-    requires room { width (view command.now) ≤ length out.old }
-    ensures after { out.new ≡ encode (view command.now) ++ drop (width (view command.now)) out.old }
-    ensures back { decode out.new ≡ Ok (view command.now) }
-{
-    match command {
-        Command::Start { prior, last } => {
-            out[0] = 0x53;
-            put_word(out, 1, *prior);
-            put_word(out, 5, *last);
-        }
-        Command::Enter {
-            side,
-            kind,
-            price,
-            quantity,
-            account,
-        } => {
-            out[0] = 0x45;
-            out[1] = side_byte(*side);
-            out[2] = kind_byte(*kind);
-            put_word(out, 3, *price);
-            put_word(out, 7, *quantity);
-            out[11..19].copy_from_slice(account);
-        }
-        Command::Withdraw { number } => {
-            out[0] = 0x58;
-            put_word(out, 1, *number);
-        }
-        Command::Amend {
-            number,
-            price,
-            quantity,
-        } => {
-            out[0] = 0x41;
-            put_word(out, 1, *number);
-            put_word(out, 5, *price);
-            put_word(out, 9, *quantity);
-        }
-    }
+    let &[i, j, k, l, m, n, o, p] = terms.account else {
+        return Err(WriteFault::AccountLength);
+    };
+    let side = side_byte(terms.side);
+    let kind = kind_byte(terms.kind);
+    let [a, b, c, d] = terms.price.to_be_bytes();
+    let [e, f, g, h] = terms.quantity.to_be_bytes();
+    let record = [
+        0x45, side, kind, a, b, c, d, e, f, g, h, i, j, k, l, m, n, o, p,
+    ];
+    put(out, &record)
 }
 
 /// Writes the command's record to the front of the output and answers how many bytes it has; the
@@ -109,13 +66,26 @@ pub fn write(out: &mut [u8], command: &Command<'_>) -> Result<usize, WriteFault>
     ensures after { out.new ≡ (if is_ok result then encode (view command.now) ++ drop (width (view command.now)) out.old else out.old) }
     ensures back { is_ok result ≡ true → decode out.new ≡ Ok (view command.now) }
 {
-    if !has_account(command) {
-        return Err(WriteFault::AccountLength);
+    match command {
+        Command::Start { prior, last } => {
+            let [a, b, c, d] = prior.to_be_bytes();
+            let [e, f, g, h] = last.to_be_bytes();
+            put(out, &[0x53, a, b, c, d, e, f, g, h])
+        }
+        Command::Enter(terms) => put_enter(out, terms),
+        Command::Withdraw { number } => {
+            let [a, b, c, d] = number.to_be_bytes();
+            put(out, &[0x58, a, b, c, d])
+        }
+        Command::Amend {
+            number,
+            price,
+            quantity,
+        } => {
+            let [a, b, c, d] = number.to_be_bytes();
+            let [e, f, g, h] = price.to_be_bytes();
+            let [i, j, k, l] = quantity.to_be_bytes();
+            put(out, &[0x41, a, b, c, d, e, f, g, h, i, j, k, l])
+        }
     }
-    let width = width_of(command);
-    if out.len() < width {
-        return Err(WriteFault::ShortOutput);
-    }
-    put(out, command);
-    Ok(width)
 }

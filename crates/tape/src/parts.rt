@@ -10,14 +10,6 @@ use crate::fault::TapeFault;
 /// The most bytes that a tape has.
 pub const MAX_TAPE: usize = 65_535;
 
-// The bytes from a place on.
-fn tail<'a>(bytes: &'a [u8], place: usize) -> &'a [u8]
-    requires { place ≤ length bytes.now }
-    ensures { RestOf bytes.entry place result }
-{
-    &bytes[place..]
-}
-
 /// The tape from a starting place on.
 pub fn tape_from<'a>(tape: &'a [u8], place: usize) -> Result<&'a [u8], TapeFault>
     ensures test { is_ok result ≡ nat_le (length tape.now) 65535 && nat_le place (length tape.now) }
@@ -27,7 +19,7 @@ pub fn tape_from<'a>(tape: &'a [u8], place: usize) -> Result<&'a [u8], TapeFault
     if tape.len() > MAX_TAPE || place > tape.len() {
         return Err(TapeFault::OutOfBounds);
     }
-    Ok(tail(tape, place))
+    Ok(&tape[place..])
 }
 
 /// The command at a place of the tape, and the place behind it. Past the tape's end there is none.
@@ -37,10 +29,11 @@ pub fn read_at<'a>(tape: &'a [u8], place: usize) -> Result<(Command<'a>, usize),
     if place > tape.len() {
         return Err(TapeFault::Truncated);
     }
-    let (command, rest) = read(tail(tape, place))?;
+    let (command, rest) = read(&tape[place..])?;
     Ok((command, tape.len() - rest.len()))
 }
 
+#[tactic(auto, using(crate::proofs::Places::part_is))]
 /// The part of the tape that the command at a place takes up.
 pub fn command_part<'a>(tape: &'a [u8], place: usize) -> Result<&'a [u8], TapeFault>
     ensures { CommandPart tape.entry place result }

@@ -1,35 +1,21 @@
 -- What the listing of a tape says: a line for each record, and a last line.
-use Rattle.std.specs.Prelude.{◌≡◌, ℕ, ◌+◌, ◌/◌, ◌%◌, Bool, cond, not, ◌&&◌, List, [], ◌∷◌, ◌++◌, length, Some, codes, decimal, MatchBool, ◌==◌, nat_le, nat_lt}
-use Rattle.market.specs.declared.order.Side.{Side}
-use Rattle.market.specs.declared.order.Side.TheVariants.{Buy, Offer}
-use Rattle.market.specs.declared.order.Kind.{Kind}
-use Rattle.market.specs.declared.order.Kind.TheVariants.{Limit, Market}
+use Rattle.std.specs.Prelude.{◌≡◌, ℕ, ◌+◌, ◌/◌, ◌%◌, Bool, true, cond, not, ◌&&◌, List, [], ◌∷◌, ◌++◌, length, Some, codes, decimal, MatchBool, ◌==◌, nat_le}
+use Rattle.std.specs.Char.{is_ascii_graphic}
+use Rattle.std.specs.Fmt.{digit_glyph}
+use Rattle.market.specs.Words.{side_word, kind_word}
 use Rattle.tape.specs.declared.fault.TapeFault.TheVariants.{OutOfBounds}
 use Rattle.tape.specs.Format.{Record, start, enter, withdraw, amend, width}
 use Rattle.tape.specs.Sequence.{Stand, Ends}
 use Rattle.tape_list.specs.declared.end.End.{End}
 use Rattle.tape_list.specs.Closing.{closing}
 
--- the words of a side and a kind
-abbrev pub side_word : Side → List ℕ
-side_word Buy = codes "buy"
-side_word Offer = codes "offer"
-
-abbrev pub kind_word : Kind → List ℕ
-kind_word Limit = codes "limit"
-kind_word Market = codes "market"
-
--- a hexadecimal digit, in capitals
-abbrev pub hex_digit : ℕ → ℕ
-hex_digit n = cond (nat_lt n 10) (48 + n) (55 + n)
-
 -- a visible character but the backslash
 abbrev pub plain : ℕ → Bool
-plain b = nat_lt 32 b && (nat_lt b 127 && not (b == 92))
+plain b = is_ascii_graphic b && not (b == 92)
 
--- a byte of an account: its character, or a backslash, x and two hexadecimal digits
+-- a byte of an account: its character, or a backslash, x and two hexadecimal digits, in capitals
 abbrev pub byte_text : ℕ → List ℕ
-byte_text b = cond (plain b) (b ∷ []) (92 ∷ 120 ∷ hex_digit (b / 16) ∷ hex_digit (b % 16) ∷ [])
+byte_text b = cond (plain b) (b ∷ []) (92 ∷ 120 ∷ digit_glyph true (b / 16) ∷ digit_glyph true (b % 16) ∷ [])
 
 abbrev pub account_text : List ℕ → List ℕ
 account_text [] = []

@@ -17,9 +17,12 @@ impl fmt::Display for End {
     ghost output = { λ e. Some (closing e) };
 
     fn fmt<W: fmt::Write>(&self, f: &mut fmt::Formatter<W>) -> fmt::Result {
-        let count = self.count;
-        let place = self.place;
-        match self.fault {
+        let End {
+            count,
+            place,
+            fault,
+        } = *self;
+        match fault {
             None => write!(f, "end {count}"),
             Some(fault) => {
                 let number = fault.number();

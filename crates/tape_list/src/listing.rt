@@ -1,8 +1,7 @@
 // The listing of a tape.
-ghost use Rattle.std.specs.Prelude.{◌≡◌, List, [], ◌∷◌, ◌++◌, IfOk, string_bytes, OnOk};
+ghost use Rattle.std.specs.Prelude.{◌≡◌, List, ◌++◌, IfOk, string_bytes, OnOk};
 ghost use Rattle.tape.specs.Format.{Record};
 ghost use Rattle.tape.specs.Views.{view};
-ghost use Rattle.tape_list.specs.Closing.{closing};
 ghost use Rattle.tape_list.specs.Listing.{Listing, Listed, Holds, line, lines};
 
 use crate::end::End;
@@ -23,38 +22,29 @@ fn add_line(
     writeln!(text, "{count} at {place} {words}")
 }
 
-// Adds the last line.
-fn add_end(text: &mut String, end: End) -> Result<(), AllocError>
-    ensures { OnOk result (string_bytes text.new ≡ string_bytes text.old ++ (closing end ++ (10 ∷ []))) }
-{
-    writeln!(text, "{end}")
-}
-
 // Adds a line for each command of the tape, up to its end or its first fault.
 fn add_lines(text: &mut String, tape: &[u8]) -> Result<End, AllocError>
     ensures { IfOk result (λ end. (cs : List Record) × Holds tape.now cs end × (string_bytes text.new ≡ string_bytes text.old ++ lines 1 0 cs)) }
 {
     let mut reader = Reader::new(tape);
     let mut count = 0;
-    'commands: loop {
+    let fault = 'commands: loop {
         let place = reader.place();
         match reader.next() {
             Ok(Some(command)) => {
                 count += 1;
                 add_line(text, count, place, command)?;
             }
-            Ok(None) => return Ok(End {
-                count,
-                place,
-                fault: None,
-            }),
-            Err(fault) => return Ok(End {
-                count,
-                place,
-                fault: Some(fault),
-            }),
+            Ok(None) => break None,
+            Err(fault) => break Some(fault),
         }
-    }
+    };
+    let place = reader.place();
+    Ok(End {
+        count,
+        place,
+        fault,
+    })
 }
 
 // The same of a tape of any length. One that is too long has no line, and its fault at the front.
@@ -77,6 +67,6 @@ pub fn listing(heap: Global, tape: &[u8]) -> Result<String, AllocError>
 {
     let mut text = String::new(heap);
     let end = add_tape(&mut text, tape)?;
-    add_end(&mut text, end)?;
+    writeln!(text, "{end}")?;
     Ok(text)
 }

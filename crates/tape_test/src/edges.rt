@@ -1,23 +1,22 @@
 // Damaged tapes, and tapes at the ends of their range.
-use crate::records::{RECORDS, bytes};
+use crate::records::RECORDS;
 use std::test::Fail;
 use tape::{Command, MAX_TAPE, Reader, TapeFault, command_part, read, tape_from};
 
 #[test]
 fn empty_tape(rt: HostRuntime) {
-    assert!(rt; matches!(read(&[]), Err(TapeFault::Truncated)));
-    assert!(rt; matches!(command_part(&[], 0), Err(TapeFault::Truncated)));
+    assert_eq!(rt; read(&[]), Err(TapeFault::Truncated));
+    assert_eq!(rt; command_part(&[], 0), Err(TapeFault::Truncated));
     let mut reader = Reader::new(&[]);
-    assert!(rt; matches!(reader.next(), Ok(None)));
+    assert_eq!(rt; reader.next(), Ok(None));
     assert!(rt; reader.place() == 0 && reader.just_read().is_empty());
 }
 
 #[test]
 fn each_record_cut_at_each_byte(rt: HostRuntime) {
-    for i in 0..RECORDS {
-        let whole = bytes(i);
+    for (_, whole) in RECORDS {
         for cut in 0..whole.len() {
-            assert!(rt; matches!(read(&whole[0..cut]), Err(TapeFault::Truncated)));
+            assert_eq!(rt; read(&whole[..cut]), Err(TapeFault::Truncated));
         }
     }
 }
@@ -39,7 +38,7 @@ fn unlisted_side_and_kind_bytes(rt: HostRuntime) {
         side[1] = byte;
         let listed = matches!(byte, 0x42 | 0x4F);
         assert!(rt; matches!(read(&side), Err(TapeFault::UnlistedByte)) != listed);
-        assert!(rt; matches!(read(&side[0..18]), Err(TapeFault::Truncated)));
+        assert_eq!(rt; read(&side[..18]), Err(TapeFault::Truncated));
         let mut kind = enter;
         kind[2] = byte;
         let listed = matches!(byte, 0x4C | 0x4D);
@@ -50,36 +49,26 @@ fn unlisted_side_and_kind_bytes(rt: HostRuntime) {
 #[test]
 fn longest_tape(rt: HostRuntime) -> Result<(), Fail> {
     let most = vec![in rt.alloc(); 0x58u8; 65_535]?;
+    let most = most.as_slice();
     assert!(rt; MAX_TAPE == 65_535);
-    assert!(rt; tape_from(most.as_slice(), 0)?.len() == 65_535);
-    assert!(rt; tape_from(most.as_slice(), 65_534)?.len() == 1);
-    assert!(rt; tape_from(most.as_slice(), 65_535)?.is_empty());
-    assert!(rt;
-        matches!(
-            tape_from(most.as_slice(), 65_536),
-            Err(TapeFault::OutOfBounds)
-        )
-    );
+    assert!(rt; tape_from(most, 0)?.len() == 65_535);
+    assert!(rt; tape_from(most, 65_534)?.len() == 1);
+    assert!(rt; tape_from(most, 65_535)?.is_empty());
+    assert_eq!(rt; tape_from(most, 65_536), Err(TapeFault::OutOfBounds));
     let over = vec![in rt.alloc(); 0x58u8; 65_536]?;
-    assert!(rt; matches!(tape_from(over.as_slice(), 0), Err(TapeFault::OutOfBounds)));
-    assert!(rt;
-        matches!(
-            tape_from(over.as_slice(), 65_536),
-            Err(TapeFault::OutOfBounds)
-        )
+    assert_eq!(rt; tape_from(over.as_slice(), 0), Err(TapeFault::OutOfBounds));
+    assert_eq!(rt;
+        tape_from(over.as_slice(), 65_536),
+        Err(TapeFault::OutOfBounds)
     );
-    let mut reader = Reader::new(most.as_slice());
+    let withdraw = Command::Withdraw {
+        number: 0x5858_5858,
+    };
+    let mut reader = Reader::new(most);
     for _ in 0..13_107 {
-        assert!(rt;
-            matches!(
-                reader.next(),
-                Ok(Some(Command::Withdraw {
-                    number: 0x5858_5858
-                }))
-            )
-        );
+        assert_eq!(rt; reader.next(), Ok(Some(withdraw)));
     }
-    assert!(rt; matches!(reader.next(), Ok(None)));
+    assert_eq!(rt; reader.next(), Ok(None));
     assert!(rt; reader.place() == 65_535);
     Ok(())
 }
@@ -90,7 +79,7 @@ fn reader_stays_at_a_fault(rt: HostRuntime) -> Result<(), Fail> {
     let mut reader = Reader::new(tape);
     assert!(rt; reader.just_read().is_empty());
     assert_eq!(rt; reader.next()?, Some(Command::Withdraw { number: 7 }));
-    assert_eq!(rt; reader.just_read(), &tape[0..5]);
+    assert_eq!(rt; reader.just_read(), &tape[..5]);
     assert_eq!(rt;
         reader.next()?,
         Some(Command::Amend {
@@ -101,15 +90,15 @@ fn reader_stays_at_a_fault(rt: HostRuntime) -> Result<(), Fail> {
     );
     assert_eq!(rt; reader.just_read(), &tape[5..18]);
     for _ in 0..2 {
-        assert!(rt; matches!(reader.next(), Err(TapeFault::UnknownCommand)));
+        assert_eq!(rt; reader.next(), Err(TapeFault::UnknownCommand));
         assert!(rt; reader.place() == 18);
         assert_eq!(rt; reader.just_read(), &tape[5..18]);
     }
-    assert_eq!(rt; command_part(tape, 0)?, &tape[0..5]);
+    assert_eq!(rt; command_part(tape, 0)?, &tape[..5]);
     assert_eq!(rt; command_part(tape, 5)?, &tape[5..18]);
-    assert!(rt; matches!(command_part(tape, 18), Err(TapeFault::UnknownCommand)));
-    assert!(rt; matches!(command_part(tape, 19), Err(TapeFault::Truncated)));
-    assert!(rt; matches!(command_part(tape, 20), Err(TapeFault::Truncated)));
-    assert!(rt; matches!(command_part(tape, 21), Err(TapeFault::Truncated)));
+    assert_eq!(rt; command_part(tape, 18), Err(TapeFault::UnknownCommand));
+    for place in 19..22 {
+        assert_eq!(rt; command_part(tape, place), Err(TapeFault::Truncated));
+    }
     Ok(())
 }
