@@ -13,5 +13,5 @@ placed place (Err e) = Err (record { place = place; fault = e })
 
 -- the number of a tape's fault or of a book's refusal
 abbrev pub step_number : StepFault → ℕ
-step_number (Tape place fault) = tape_number fault
-step_number (Book place refusal) = (listed refusal).number
+step_number (Tape at) = tape_number at.fault
+step_number (Book at) = (listed at.fault).number

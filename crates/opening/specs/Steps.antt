@@ -28,11 +28,11 @@ command_at tape i = cond (nat_le (length tape) 65535 && nat_le i (length tape)) 
 -- what the book said, its refusal with the place
 abbrev pub said_at : ℕ → Result Answer Refusal → Result Answer StepFault
 said_at i (Ok a) = Ok a
-said_at i (Err e) = Err (fault.Book i e)
+said_at i (Err e) = Err (fault.Book (record { place = i; fault = e }))
 
 -- a step at place i that finds a fault of the tape answers it, and the book stays; one that finds a command gives its call to the book
 abbrev pub StepOn : {R S : Type 0} → TickRule.Ghosts R → OrderSheet.Ghosts S → Result Record TapeFault → ℕ → Book R S → Result Answer StepFault → Book R S → Type 0
-StepOn rules sheets (Err f) i b r b' = (r ≡ Err (fault.Tape i f)) × (b' ≡ b)
+StepOn rules sheets (Err f) i b r b' = (r ≡ Err (fault.Tape (record { place = i; fault = f }))) × (b' ≡ b)
 StepOn rules sheets (Ok c) i b r b' = (said : Result Answer Refusal) × Takes rules sheets (call_of c) b said b' × (r ≡ said_at i said)
 
 abbrev pub Stepped : {R S : Type 0} → TickRule.Ghosts R → OrderSheet.Ghosts S → List ℕ → ℕ → Book R S → Result Answer StepFault → Book R S → Type 0

@@ -1,23 +1,30 @@
 // One command from a tape to a book.
 ghost use Rattle.std.specs.Prelude.{◌≡◌, true, length};
 ghost use Rattle.tape.specs.Views.{view, has_account};
-ghost use Rattle.opening.specs.Calls.{call_of};
+ghost use Rattle.opening.specs.Calls.{call_of, held};
 ghost use Rattle.opening.specs.Steps.{Advanced};
 
 use book::Book;
 use calls::{Answer, Call, Refusal};
+use market::Terms;
 use sheets::OrderSheet;
 use tape::{Command, Reader, TapeFault};
 use ticks::TickRule;
 
-// The eight bytes of an account.
-fn account_of(bytes: &[u8]) -> [u8; 8]
-    requires { length bytes.now ≡ 8 }
-    ensures { result ≡ bytes.now }
+// The same terms, with the account held.
+fn held(terms: Terms<&[u8]>) -> Terms<[u8; 8]>
+    requires { length terms.account.now ≡ 8 }
+    ensures { result ≡ held terms.entry }
 {
     let mut account = [0; 8];
-    account.copy_from_slice(bytes);
-    account
+    account.copy_from_slice(terms.account);
+    Terms {
+        side: terms.side,
+        kind: terms.kind,
+        price: terms.price,
+        quantity: terms.quantity,
+        account,
+    }
 }
 
 // The call that a command makes.
@@ -27,19 +34,7 @@ fn call_of(command: Command<'_>) -> Call
 {
     match command {
         Command::Start { prior, last } => Call::Start { prior, last },
-        Command::Enter {
-            side,
-            kind,
-            price,
-            quantity,
-            account,
-        } => Call::Enter {
-            side,
-            kind,
-            price,
-            quantity,
-            account: account_of(account),
-        },
+        Command::Enter(terms) => Call::Enter(held(terms)),
         Command::Withdraw { number } => Call::Withdraw { number },
         Command::Amend {
             number,

@@ -6,49 +6,40 @@ ghost use Rattle.opening.specs.Placed.{placed, step_number};
 use calls::Refusal;
 use tape::TapeFault;
 
-/// A fault of the tape or a refusal of the book, whole, with the place of the command.
-#[derive(Clone, Copy, PartialEq, Debug)]
-pub enum StepFault {
-    Tape { place: usize, fault: TapeFault },
-    Book { place: usize, refusal: Refusal },
+/// What went wrong, and the place of the command.
+#[derive(Clone, Copy, PartialEq, Eq, Debug)]
+pub struct At<E> {
+    pub place: usize,
+    pub fault: E,
 }
 
-// What went wrong at a place.
-#[derive(Clone, Copy)]
-pub(crate) struct At<E> {
-    pub(crate) place: usize,
-    pub(crate) fault: E,
+/// A fault of the tape or a refusal of the book, whole, with the place of the command.
+#[derive(Clone, Copy, PartialEq, Eq, Debug)]
+pub enum StepFault {
+    Tape(At<TapeFault>),
+    Book(At<Refusal>),
 }
 
 // Says where a fault is.
 pub(crate) fn located<T, E>(place: usize, res: Result<T, E>) -> Result<T, At<E>>
     ensures { result ≡ placed place res }
 {
-    match res {
-        Ok(value) => Ok(value),
-        Err(fault) => Err(At { place, fault }),
-    }
+    res.map_err(|fault| At { place, fault })
 }
 
 impl From<At<TapeFault>> for StepFault {
-    ghost from_gives = { λ a r. r ≡ Tape a.place a.fault };
+    ghost from_gives = { λ a r. r ≡ Tape a };
 
     fn from(at: At<TapeFault>) -> StepFault {
-        StepFault::Tape {
-            place: at.place,
-            fault: at.fault,
-        }
+        StepFault::Tape(at)
     }
 }
 
 impl From<At<Refusal>> for StepFault {
-    ghost from_gives = { λ a r. r ≡ Book a.place a.fault };
+    ghost from_gives = { λ a r. r ≡ Book a };
 
     fn from(at: At<Refusal>) -> StepFault {
-        StepFault::Book {
-            place: at.place,
-            refusal: at.fault,
-        }
+        StepFault::Book(at)
     }
 }
 
@@ -58,8 +49,8 @@ impl StepFault {
         ensures { result ≡ step_number self.now }
     {
         match self {
-            StepFault::Tape { fault, .. } => fault.number(),
-            StepFault::Book { refusal, .. } => refusal.number(),
+            StepFault::Tape(at) => at.fault.number(),
+            StepFault::Book(at) => at.fault.number(),
         }
     }
 }

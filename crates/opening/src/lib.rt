@@ -6,6 +6,6 @@ mod runs;
 mod steps;
 
 pub use commands::advance;
-pub use fault::StepFault;
-pub use runs::{Counts, Report, Stop, run};
+pub use fault::{At, StepFault};
+pub use runs::{Counts, Report, run};
 pub use steps::step;

@@ -4,6 +4,7 @@ ghost use Rattle.tape.specs.declared.fault.TapeFault.TheVariants.{OutOfBounds};
 ghost use Rattle.opening.specs.Runs.{yes_of, no_of, Ran};
 
 use crate::commands::advance;
+use crate::fault::At;
 use book::Book;
 use calls::{Answer, Refusal};
 use sheets::OrderSheet;
@@ -11,24 +12,17 @@ use tape::{Reader, TapeFault, tape_from};
 use ticks::TickRule;
 
 /// How many calls were accepted, and how many refused.
-#[derive(Clone, Copy, PartialEq, Debug)]
+#[derive(Clone, Copy, PartialEq, Eq, Debug)]
 pub struct Counts {
     pub accepted: usize,
     pub refused: usize,
 }
 
-/// Why a run ended: at the tape's end, or at a fault and its place.
-#[derive(Clone, Copy, PartialEq, Debug)]
-pub enum Stop {
-    End,
-    Fault { place: usize, fault: TapeFault },
-}
-
-/// How a run went.
-#[derive(Clone, Copy, PartialEq, Debug)]
+/// How a run went, and the fault that ended it before the tape's end, if any.
+#[derive(Clone, Copy, PartialEq, Eq, Debug)]
 pub struct Report {
     pub counts: Counts,
-    pub stop: Stop,
+    pub fault: Option<At<TapeFault>>,
 }
 
 impl Counts {
@@ -55,15 +49,15 @@ fn run_all<R: TickRule, S: OrderSheet>(book: &mut Book<R, S>, tape: &[u8], start
         accepted: 0,
         refused: 0,
     };
-    let (counts, stop) = 'commands: loop {
+    let (counts, fault) = 'commands: loop {
         let place = start + reader.place();
         match advance(book, &mut reader) {
             Ok(Some(said)) => counts.note(&said),
-            Ok(None) => break (counts, Stop::End),
-            Err(fault) => break (counts, Stop::Fault { place, fault }),
+            Ok(None) => break (counts, None),
+            Err(fault) => break (counts, Some(At { place, fault })),
         }
     };
-    Report { counts, stop }
+    Report { counts, fault }
 }
 
 /// Runs a tape from a starting place on: each command in turn, refused ones counted, up to the tape's

@@ -2,7 +2,7 @@
 ghost use Rattle.opening.specs.Steps.{Stepped};
 
 use crate::commands::advance;
-use crate::fault::{StepFault, located};
+use crate::fault::{At, StepFault, located};
 use book::Book;
 use calls::Answer;
 use sheets::OrderSheet;
@@ -18,11 +18,11 @@ pub fn step<R: TickRule, S: OrderSheet>(
     ensures { Stepped R.TickRule S.OrderSheet tape.now place book.old result book.new }
 {
     let mut reader = Reader::new(located(place, tape_from(tape, place))?);
-    match located(place, advance(book, &mut reader))? {
-        Some(said) => Ok(located(place, said)?),
-        None => Err(StepFault::Tape {
+    let Some(said) = located(place, advance(book, &mut reader))? else {
+        return Err(StepFault::Tape(At {
             place,
             fault: TapeFault::Truncated,
-        }),
-    }
+        }));
+    };
+    Ok(located(place, said)?)
 }
