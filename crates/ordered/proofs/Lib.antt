@@ -1,3 +1,4 @@
+pub mod Tests
 pub mod Sorts
 pub mod Commutes
 pub mod Edits

@@ -3,7 +3,8 @@ use Rattle.std.proofs.Common.{◌≡◌, ℕ, zero, suc, ◌<◌, Bool, true, fa
 use Rattle.std.specs.List.{insert, remove, AllByRecursion, list_all, find, slice_get}
 use Rattle.std.specs.List.Sorted.{IsPartitionedBy}
 use Rattle.std.proofs.ByRecursion.{All-weaker, All-get_or}
-use Rattle.std.proofs.lemmas.Bool.{cases_order, cases_Bool, both_ways, and_parts, not-true}
+use Rattle.std.proofs.lemmas.Bool.{cases_order, cases_Bool, both_ways, and_parts, not-true, and_from, not_from_false}
+use Rattle.ordered.proofs.Tests.{all_from, all-to}
 use Rattle.ordered.specs.Sorting.{ranked, insert_by, sort_by, in_order, Sorted}
 
 -- past the rows that x is not ahead of, and before the first that it is ahead of
@@ -97,14 +98,6 @@ length-sort ahead (x ∷ xs) = length-insert ahead x (sort_by ahead xs) ∙ ap s
 abbrev pub AllFail : {X : Type 0} → (X → Bool) → List X → Type 0
 AllFail test xs = AllByRecursion (λ y. test y ≡ false) xs
 
-fail_from : {X : Type 0} (test : X → Bool) (xs : List X) → list_all (λ y. not (test y)) xs ≡ true → AllFail test xs
-fail_from test [] e = tt
-fail_from test (x ∷ xs) e = let p = and_parts (not (test x)) (list_all (λ y. not (test y)) xs) e in (not-true (test x) p.0, fail_from test xs p.1)
-
-pass-from : {X : Type 0} (test : X → Bool) (xs : List X) → AllFail test xs → list_all (λ y. not (test y)) xs ≡ true
-pass-from test [] h = refl
-pass-from test (x ∷ xs) h = rw h.0 (pass-from test xs h.1)
-
 -- the same as a fact
 abbrev pub InOrder : {X : Type 0} → (X → X → Bool) → List X → Type 0
 InOrder ahead [] = Unit {0}
@@ -112,11 +105,12 @@ InOrder ahead (x ∷ xs) = AllFail (λ y. ahead y x) xs × InOrder ahead xs
 
 pub order_from : {X : Type 0} (ahead : X → X → Bool) (xs : List X) → in_order ahead xs ≡ true → InOrder ahead xs
 order_from ahead [] e = tt
-order_from ahead (x ∷ xs) e = let p = and_parts (list_all (λ y. not (ahead y x)) xs) (in_order ahead xs) e in (fail_from (λ y. ahead y x) xs p.0, order_from ahead xs p.1)
+order_from ahead (x ∷ xs) e = let p = and_parts (list_all (λ y. not (ahead y x)) xs) (in_order ahead xs) e in (all_from (λ y. not (ahead y x)) (λ y. ahead y x ≡ false) (λ y. not-true (ahead y x)) xs p.0, order_from ahead xs p.1)
 
 pub order_is : {X : Type 0} (ahead : X → X → Bool) (xs : List X) → InOrder ahead xs → in_order ahead xs ≡ true
 order_is ahead [] h = refl
-order_is ahead (x ∷ xs) h = rw (pass-from (λ y. ahead y x) xs h.0) (order_is ahead xs h.1)
+order_is ahead (x ∷ xs) h =
+    and_from (list_all (λ y. not (ahead y x)) xs) (in_order ahead xs) (all-to (λ y. not (ahead y x)) (λ y. ahead y x ≡ false) (λ y. not_from_false (ahead y x)) xs h.0) (order_is ahead xs h.1)
 
 -- of two entries the later is not ahead
 order_pair : {X : Type 0} (ahead : X → X → Bool) (xs : List X) → InOrder ahead xs → (i j : ℕ) (d : X) → i < j → j < length xs → ahead (get_or xs j d) (get_or xs i d) ≡ false

@@ -5,6 +5,7 @@ use Rattle.std.proofs.lemmas.List.Elements.{filter-append}
 use Rattle.std.proofs.ByRecursion.{all_kept_by, All-append}
 use Rattle.std.proofs.lemmas.Bool.{cases_Bool, both_ways, and_from, and_cases, not-false, not_from_false, le-leb, lt-ltb, lt-leb, leb-false, cond-true, cond-false}
 use Rattle.ordered.specs.Sorting.{insert_by, Sorted}
+use Rattle.ordered.proofs.Tests.{all-to}
 use Rattle.ordered.proofs.Sorts.{all_insert, sorted_insert, length-insert}
 use Rattle.market.specs.declared.order.Order.{Order}
 use Rattle.market.specs.declared.order.Side.{Side}
@@ -16,10 +17,6 @@ use Rattle.sheets.proofs.Ranks.{outranks-transitive, outranks-total}
 use Rattle.sheets.proofs.Numbers.{all_left, all_right, without-free, free-none, apart-kept, sides-same}
 
 -- ---- the test tells no more than the laws
-
-all-to : {X : Type 0} (test : X → Bool) (P : X → Type 0) → ((x : X) → P x → test x ≡ true) → (xs : List X) → AllByRecursion P xs → list_all test xs ≡ true
-all-to test P says [] e = refl
-all-to test P says (x ∷ xs) e = and_from (test x) (list_all test xs) (says x e.0) (all-to test P says xs e.1)
 
 sorted-to : {X : Type 0} (ahead : X → X → Bool) (xs : List X) → Sorted ahead xs → is_sorted ahead xs ≡ true
 sorted-to ahead [] e = refl

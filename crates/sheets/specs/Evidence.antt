@@ -7,6 +7,7 @@ use Rattle.std.proofs.lemmas.List.Elements.{filter-append}
 use Rattle.std.proofs.lemmas.Bool.{and_parts, ltb-true, leb-true, eq-eqb, not-true, both_ways, cases_Bool}
 use Rattle.ordered.specs.Sorting.{sort_by, Sorted}
 use Rattle.ordered.specs.Meaning.{lent}
+use Rattle.ordered.proofs.Tests.{all_from}
 use Rattle.ordered.proofs.Sorts.{sort_sorted}
 use Rattle.market.specs.declared.order.Order.{Order}
 use Rattle.market.specs.declared.order.Side.{Side}
@@ -20,11 +21,6 @@ use Rattle.sheets.specs.Laws.{Free, Apart, Bounded, LineLaws, SheetLaws}
 use Rattle.sheets.specs.Held.{rows_of, held_by_priority, rows_by_priority, held_by_arrival, rows_by_arrival}
 
 -- ---- what the test tells
-
--- each test of an element says a fact of it
-pub all_from : {X : Type 0} (test : X → Bool) (P : X → Type 0) → ((x : X) → test x ≡ true → P x) → (xs : List X) → list_all test xs ≡ true → AllByRecursion P xs
-all_from test P says [] e = tt
-all_from test P says (x ∷ xs) e = let p = and_parts (test x) (list_all test xs) e in (says x p.0, all_from test P says xs p.1)
 
 -- the test of order
 pub sorted-from : {X : Type 0} (ahead : X → X → Bool) (xs : List X) → is_sorted ahead xs ≡ true → Sorted ahead xs
