@@ -3,8 +3,7 @@ pub mod AnswersHold
 pub mod Appends
 pub mod AtIndex
 pub mod FlatHolds
-pub mod FlatPlaces
+pub mod OneRow
 pub mod Progress
 pub mod RowsHold
 pub mod Spans
-pub mod Surveys

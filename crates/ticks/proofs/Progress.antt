@@ -1,6 +1,6 @@
 -- A row of numbers at equal distances: its places, and what the questions answer on it.
-use Rattle.std.proofs.Common.{◌≡◌, ℕ, ◌+◌, ◌-◌, ◌*◌, ◌/◌, ◌<◌, ◌≤◌, true, false, get_or, Some, None, ap, ◌∙◌, mod-lt, mul-le-mul_left, mul-zero, mul-add, arith}
-use native.Mathlib.Nat.{div-add-mod, lt_of_mul-lt-mul_left}
+use Rattle.std.proofs.Common.{◌≡◌, ℕ, ◌+◌, ◌-◌, ◌*◌, ◌<◌, ◌≤◌, true, false, get_or, Some, None, ap, ◌∙◌, mul-le-mul_left, mul-zero, arith}
+use native.Mathlib.Nat.{lt_of_mul-lt-mul_left}
 use Rattle.ticks.specs.Ticks.{is_tick, first_above, last_below, progression}
 use Rattle.ticks.specs.Evidence.{length-progression, slice_index-progression, at_place}
 use Rattle.ticks.proofs.AtIndex.{first_above-at, first_above-none, last_below-at, last_below-none, is_tick-at, is_tick-none}
@@ -59,10 +59,3 @@ module _ (a s n : ℕ) where
       last_below-at (progression a s n) (n - 1) p (omega (arith, length-progression a s n)) (omega (arith, e))
       (λ j l m. absurd (omega (arith, length-progression a s n)))
       ∙ ap Some e
-
--- the quotient of d by s, by its two bounds
-pub quotient_under : (d s : ℕ) → s * (d / s) ≤ d
-quotient_under d s = omega (arith, div-add-mod d s)
-
-pub quotient_over : (d s : ℕ) → 1 ≤ s → d < s * (d / s + 1)
-quotient_over d s h = omega (arith, div-add-mod d s, mod-lt d h, mul-add s (d / s) 1)

@@ -1,13 +1,13 @@
 -- The banded rule in words.
-use Rattle.std.proofs.Common.{◌≡◌, ℕ, zero, suc, ◌+◌, ◌-◌, ◌*◌, ◌/◌, ◌%◌, ◌<◌, ◌≤◌, Bool, true, false, cond, ◌||◌, eqb, ltb, leb, ◌⊎◌, List, [], ◌∷◌, ◌++◌, length, get_or, drop, is_ok, Ok, Err, sym, refl, ap, ◌∙◌, inl, inr, ⊎_elim, arith}
+use Rattle.std.proofs.lemmas.Grind.{common_steps}
+use Rattle.std.proofs.Common.{◌≡◌, ℕ, zero, suc, ◌+◌, ◌-◌, ◌*◌, ◌/◌, ◌%◌, ◌<◌, ◌≤◌, true, ◌⊎◌, List, [], ◌∷◌, ◌++◌, length, get_or, drop, is_ok, Ok, sym, refl, ap, ◌∙◌, inl, inr, ⊎_elim, arith}
 use native.Mathlib.Nat.{div-add-mod, mul-mod_right}
-use Rattle.std.proofs.lemmas.Bool.{cond-false, le-ltb, lt-leb, eq-eqb, eqb-true, cases_lt, cases_eq, or_left, or_right, both_ways}
+use Rattle.std.proofs.lemmas.Bool.{eqb-true, cases_lt, cases_eq, both_ways}
 use Rattle.std.proofs.lemmas.List.{at_drop_more, at_drop_all, length-append, get_or-append_right}
 use Rattle.ticks.specs.declared.row.Row.{Row}
-use Rattle.ticks.specs.declared.banded.fault.BandedFault.TheVariants.{NoRows, TooManyRows, EndBelowStart, EndTooHigh, TooManyTicks}
 use Rattle.ticks.specs.Ticks.{is_tick, progression}
 use Rattle.ticks.specs.Questions.{Tick}
-use Rattle.ticks.specs.Rows.{start_of, stretch, ladder, blank, start_at, step_at, Checked, and_then, rows_check, distances_check, load_check}
+use Rattle.ticks.specs.Rows.{start_of, stretch, ladder, blank, start_at, step_at, rows_check, distances_check, load_check}
 use Rattle.ticks.specs.RowWords.{Conditions, LoadConditions, OnRow, RowLadder}
 use Rattle.ticks.specs.Evidence.{Chain, row-passes, distance-passes, found, one, lawful_banded}
 use Rattle.ticks.proofs.Appends.{tick-append}
@@ -17,17 +17,13 @@ use Rattle.ticks.proofs.Spans.{row-tick, here-tick, there_tick, tick-before, tic
 rising-rows : (i low : ℕ) (rs : List Row) → rows_check i low rs ≡ Ok tt → (j : ℕ) → suc j < length rs → start_at rs j < start_at rs (suc j)
 rising-rows i low [] e j l = absurd (omega arith)
 rising-rows i low (r ∷ []) e j l = absurd (omega arith)
-rising-rows i low (r ∷ s ∷ rs) e zero l = (row-passes (i + 1) r.start s rs (row-passes i low r (s ∷ rs) e).2).0
+rising-rows i low (r ∷ s ∷ rs) e zero l = grind (arith, common_steps)
 rising-rows i low (r ∷ s ∷ rs) e (suc j) l = rising-rows (i + 1) r.start (s ∷ rs) (row-passes i low r (s ∷ rs) e).2 j (omega arith)
 
 steps-rows : (i low : ℕ) (rs : List Row) → rows_check i low rs ≡ Ok tt → (j : ℕ) → j < length rs → 1 ≤ step_at rs j
 steps-rows i low [] e j l = absurd (omega arith)
 steps-rows i low (r ∷ rs) e zero l = (row-passes i low r rs e).1
 steps-rows i low (r ∷ rs) e (suc j) l = steps-rows (i + 1) r.start rs (row-passes i low r rs e).2 j (omega arith)
-
-first-row : (rs : List Row) → rows_check 0 0 rs ≡ Ok tt → 1 ≤ length rs → 1 ≤ start_at rs 0
-first-row [] e l = absurd (omega arith)
-first-row (r ∷ rs) e l = (row-passes 0 0 r rs e).0
 
 even-rows : (i : ℕ) (rs : List Row) (end : ℕ) → distances_check i rs end ≡ Ok tt → (j : ℕ) → suc j < length rs → (start_at rs (suc j) - start_at rs j) % step_at rs j ≡ 0
 even-rows i [] end e j l = absurd (omega arith)
@@ -42,13 +38,17 @@ last_row i (r ∷ []) end e (suc j) l = absurd (omega arith)
 last_row i (r ∷ s ∷ rs) end e zero l = absurd (omega arith)
 last_row i (r ∷ s ∷ rs) end e (suc j) l = last_row (i + 1) (s ∷ rs) end (distance-passes i r (s ∷ rs) end e).1 j (omega arith)
 
+first-start : (rs : List Row) (end : ℕ) → 1 ≤ length rs → start_of rs end ≡ start_at rs 0
+first-start [] end h = absurd (omega arith)
+first-start (r ∷ rs) end h = refl
+
 kept : (rows : List Row) (end : ℕ) → is_ok (load_check rows end) ≡ true → Conditions rows end
 kept rows end e =
     let f = found rows end e in
     record {
       some = f.some;
       fit = f.rows;
-      first = first-row rows f.fine f.some;
+      first = omega (arith, f.least, first-start rows end f.some);
       rising = rising-rows 0 0 rows f.fine;
       steps = steps-rows 0 0 rows f.fine;
       ends = λ i l. let k : i ≡ length rows - 1 = omega arith in omega (arith, f.ends, ap (λ j. start_at rows j) k);
@@ -62,40 +62,25 @@ kept rows end e =
 rows-fine : (i low : ℕ) (rs : List Row) → (1 ≤ length rs → low < start_at rs 0) → ((j : ℕ) → suc j < length rs → start_at rs j < start_at rs (suc j)) → ((j : ℕ) → j < length rs → 1 ≤ step_at rs j) → rows_check i low rs ≡ Ok tt
 rows-fine i low [] f up st = refl
 rows-fine i low (r ∷ rs) f up st =
-    cond-false (leb r.start low) _ _ (lt-leb _ _ (f (omega arith)))
-    ∙ cond-false (ltb r.step 1) _ _ (le-ltb _ _ (st 0 (omega arith)))
-    ∙ rows-fine (i + 1) r.start rs (λ h. up 0 (omega arith)) (λ j l. up (suc j) (omega arith)) (λ j l. st (suc j) (omega arith))
+    let e = rows-fine (i + 1) r.start rs (λ h. up 0 (omega arith)) (λ j l. up (suc j) (omega arith)) (λ j l. st (suc j) (omega arith)) in
+    let l = f (omega arith) in
+    let m = st 0 (omega arith) in
+    grind (arith, common_steps)
 
 distances_fine : (i : ℕ) (rs : List Row) (end : ℕ) → ((j : ℕ) → suc j < length rs → (start_at rs (suc j) - start_at rs j) % step_at rs j ≡ 0) → ((j : ℕ) → suc j ≡ length rs → (end - start_at rs j) % step_at rs j ≡ 0) → distances_check i rs end ≡ Ok tt
 distances_fine i [] end ev la = refl
-distances_fine i (r ∷ []) end ev la =
-    let m : ℕ = (end - r.start) % r.step in
-    let z : m ≡ 0 = la 0 (omega arith) in
-    cond-false (ltb 0 m) _ _ (le-ltb 0 m (omega (arith, z)))
+distances_fine i (r ∷ []) end ev la = let z = la 0 (omega arith) in grind (arith, common_steps)
 distances_fine i (r ∷ s ∷ rs) end ev la =
-    let m : ℕ = (s.start - r.start) % r.step in
-    let z : m ≡ 0 = ev 0 (omega arith) in
-    cond-false (ltb 0 m) _ _ (le-ltb 0 m (omega (arith, z)))
-    ∙ distances_fine (i + 1) (s ∷ rs) end (λ j l. ev (suc j) (omega arith)) (λ j l. la (suc j) (omega arith))
+    let e = distances_fine (i + 1) (s ∷ rs) end (λ j l. ev (suc j) (omega arith)) (λ j l. la (suc j) (omega arith)) in
+    let z = ev 0 (omega arith) in
+    grind (arith, common_steps)
 
-accepted : (rows : List Row) (end : ℕ) → Conditions rows end → is_ok (load_check rows end) ≡ true
+pub accepted : (rows : List Row) (end : ℕ) → Conditions rows end → is_ok (load_check rows end) ≡ true
 accepted rows end c =
-    let some = c.some in
-    let lasts : start_at rows (length rows - 1) ≤ end = c.ends (length rows - 1) (omega arith) in
-    let x6 : Checked = cond (ltb 1000000 (length (ladder rows end))) (Err TooManyTicks) (Ok tt) in
-    let x5 : Checked = and_then (distances_check 0 rows end) x6 in
-    let x4 : Checked = cond (ltb 1000000000 end) (Err EndTooHigh) x5 in
-    let x3 : Checked = cond (ltb end (start_at rows (length rows - 1))) (Err EndBelowStart) x4 in
-    let x2 : Checked = and_then (rows_check 0 0 rows) x3 in
-    let x1 : Checked = cond (ltb 16 (length rows)) (Err TooManyRows) x2 in
-    let a : load_check rows end ≡ x1 = cond-false (ltb (length rows) 1) (Err NoRows) x1 (le-ltb _ _ c.some) in
-    let b : x1 ≡ x2 = cond-false (ltb 16 (length rows)) (Err TooManyRows) x2 (le-ltb _ _ c.fit) in
-    let d : x2 ≡ x3 = ap (λ x. and_then x x3) (rows-fine 0 0 rows (λ _. c.first) c.rising c.steps) in
-    let e : x3 ≡ x4 = cond-false (ltb end (start_at rows (length rows - 1))) (Err EndBelowStart) x4 (le-ltb _ _ lasts) in
-    let f : x4 ≡ x5 = cond-false (ltb 1000000000 end) (Err EndTooHigh) x5 (le-ltb _ _ c.high) in
-    let g : x5 ≡ x6 = ap (λ x. and_then x x6) (distances_fine 0 rows end c.even c.last) in
-    let h : x6 ≡ Ok tt = cond-false (ltb 1000000 (length (ladder rows end))) (Err TooManyTicks) (Ok tt) (le-ltb _ _ c.few) in
-    ap is_ok (a ∙ b ∙ d ∙ e ∙ f ∙ g ∙ h)
+    let lasts = c.ends (length rows - 1) (omega (arith, c.some)) in
+    let d = rows-fine 0 0 rows (λ _. c.first) c.rising c.steps in
+    let g = distances_fine 0 rows end c.even c.last in
+    grind (arith, common_steps)
 
 pub load-conditions : LoadConditions
 load-conditions rows end = (kept rows end, accepted rows end)
@@ -109,10 +94,6 @@ first-tick : (rs : List Row) (end : ℕ) → Chain rs end → get_or (ladder rs 
 first-tick [] end c = refl
 first-tick (r ∷ rs) end c = head-stretch r.start r.step _ (ladder rs end) (first-tick rs end c.3 ∙ sym c.2)
 
-first-start : (rs : List Row) (end : ℕ) → 1 ≤ length rs → start_of rs end ≡ start_at rs 0
-first-start [] end h = absurd (omega arith)
-first-start (r ∷ rs) end h = refl
-
 last-append : (xs ys : List ℕ) (x : ℕ) → 1 ≤ length ys → get_or ys (length ys - 1) 0 ≡ x → get_or (xs ++ ys) (length (xs ++ ys) - 1) 0 ≡ x
 last-append xs ys x h e =
     let n = length-append xs ys in
@@ -124,28 +105,27 @@ last-tick [] end = refl
 last-tick (r ∷ rs) end = last-append (stretch r (start_of rs end)) (ladder rs end) end (one rs end) (last-tick rs end)
 
 -- p lies on a step of row i, under the next start or the end
-abbrev InRow : List Row → ℕ → ℕ → ℕ → Type 0
-InRow rows end p i = (i < length rows) × (start_at rows i ≤ p) × (p < start_of (drop (suc i) rows) end) × ((p - start_at rows i) % step_at rows i ≡ 0)
+abbrev RowHas : List Row → ℕ → ℕ → ℕ → Type 0
+RowHas rows end p i = (i < length rows) × (start_at rows i ≤ p) × (p < start_of (drop (suc i) rows) end) × ((p - start_at rows i) % step_at rows i ≡ 0)
 
-in_row : (rs : List Row) (end p i : ℕ) → Chain rs end → InRow rs end p i → Tick (ladder rs end) p
+in_row : (rs : List Row) (end p i : ℕ) → Chain rs end → RowHas rs end p i → Tick (ladder rs end) p
 in_row [] end p i c h = absurd (omega (arith, h.0))
 in_row (r ∷ rs) end p zero c h =
     let hi : p < r.start + r.step * ((start_of rs end - r.start) / r.step) = omega (arith, c.2, h.2) in
-    tick-append (stretch r (start_of rs end)) (ladder rs end) p
-    ∙ or_left _ _ (row-tick r.start r.step _ p (ladder rs end) c.0 h.1 hi ∙ eq-eqb _ _ h.3)
+    let e = tick-append (stretch r (start_of rs end)) (ladder rs end) p in
+    let t = row-tick r.start r.step _ p (ladder rs end) c.0 h.1 hi in
+    grind (arith, common_steps)
 in_row (r ∷ rs) end p (suc i) c h =
-    tick-append (stretch r (start_of rs end)) (ladder rs end) p ∙ or_right _ _ (in_row rs end p i c.3 (omega (arith, h.0), h.1, h.2, h.3))
+    let e = tick-append (stretch r (start_of rs end)) (ladder rs end) p in
+    let t = in_row rs end p i c.3 (omega (arith, h.0), h.1, h.2, h.3) in
+    grind (arith, common_steps)
 
-next_row : (r : Row) (rs : List Row) (end p : ℕ) → (p ≡ end) ⊎ ((i : ℕ) × InRow rs end p i) → (p ≡ end) ⊎ ((i : ℕ) × InRow (r ∷ rs) end p i)
+next_row : (r : Row) (rs : List Row) (end p : ℕ) → (p ≡ end) ⊎ ((i : ℕ) × RowHas rs end p i) → (p ≡ end) ⊎ ((i : ℕ) × RowHas (r ∷ rs) end p i)
 next_row r rs end p (inl e) = inl e
 next_row r rs end p (inr (i, h)) = inr (suc i, (omega (arith, h.0), h.1, h.2, h.3))
 
-only-rows : (rs : List Row) (end p : ℕ) → Chain rs end → Tick (ladder rs end) p → (p ≡ end) ⊎ ((i : ℕ) × InRow rs end p i)
-only-rows [] end p c e = inl (sym (eqb-true end p (sym (or_false (eqb end p)) ∙ e)))
-  where
-    or_false : (b : Bool) → (b || false) ≡ b
-    or_false true = refl
-    or_false false = refl
+only-rows : (rs : List Row) (end p : ℕ) → Chain rs end → Tick (ladder rs end) p → (p ≡ end) ⊎ ((i : ℕ) × RowHas rs end p i)
+only-rows [] end p c e = inl (grind (arith, common_steps))
 only-rows (r ∷ rs) end p c e =
     ⊎_elim
     (λ low. absurd (both_ways _ (tick-before (r ∷ rs) end p c low) e))
@@ -194,7 +174,7 @@ module _ (rows : List Row) (end : ℕ) (ok : Conditions rows end) (chain : Chain
         },
       )
 
-  in_one : (p i : ℕ) → InRow rows end p i → OnRow rows end p i
+  in_one : (p i : ℕ) → RowHas rows end p i → OnRow rows end p i
   in_one p i h = record {
     row = h.0;
     step = by-quotient (start_at rows i) (step_at rows i) p h.1 h.3;

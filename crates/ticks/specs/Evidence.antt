@@ -1,15 +1,13 @@
 -- Evidence that each rule is lawful. A trait's ghost member takes it from here, so it stands among the definitions;
 -- nothing in this file has to be believed.
-use Rattle.std.specs.Prelude.{◌≡◌, ℕ, zero, suc, ◌+◌, ◌-◌, ◌*◌, ◌/◌, ◌%◌, ◌<◌, ◌≤◌, min, max, Bool, true, false, cond, List, [], ◌∷◌, ◌++◌, length, is_ok, Ok, Err, nat_le, nat_lt, slice_index, slice_index_or, refl}
-use Rattle.std.proofs.Common.{ap, ◌∙◌, mul-zero, mul-suc, mul-add, mul-le-mul_left, arith}
+use Rattle.std.specs.Prelude.{◌≡◌, ℕ, zero, suc, ◌+◌, ◌-◌, ◌*◌, ◌/◌, ◌%◌, ◌<◌, ◌≤◌, min, max, true, List, [], ◌∷◌, ◌++◌, length, is_ok, Ok, slice_index, slice_index_or, refl}
+use Rattle.std.proofs.Common.{length-append, ap, ◌∙◌, mul-zero, mul-suc, mul-add, mul-le-mul_left, arith}
 use Rattle.std.proofs.Math.Nat.{div-add-mod}
-use Rattle.std.proofs.lemmas.Bool.{ltb-false, leb-false, false≢true}
+use Rattle.std.proofs.lemmas.Grind.{common_steps}
 use Rattle.ticks.specs.declared.row.Row.{Row}
-use Rattle.ticks.specs.declared.banded.fault.BandedFault.{BandedFault}
-use Rattle.ticks.specs.declared.banded.fault.BandedFault.TheVariants.{NoRows, TooManyRows, StartNotRising, StepIsZero, EndBelowStart, EndTooHigh, UnevenDistance, TooManyTicks}
 use Rattle.ticks.specs.Ticks.{progression, Lawful, Rising}
 use Rattle.ticks.specs.Flats.{Sound}
-use Rattle.ticks.specs.Rows.{start_of, ladder, start_at, Checked, and_then, rows_check, distances_check, load_check, Ordered}
+use Rattle.ticks.specs.Rows.{start_of, stretch, ladder, start_at, rows_check, distances_check, load_check, Ordered}
 
 -- a progression, place by place
 pub length-progression : (a s n : ℕ) → length (progression a s n) ≡ n
@@ -59,40 +57,20 @@ lawful_band ts floor ceiling lower upper l h = record {
 }
 
 -- what a check that passes leaves
-past : (b : Bool) (f : BandedFault) (x : Checked) → cond b (Err f) x ≡ Ok tt → (b ≡ false) × (x ≡ Ok tt)
-past true f x e = absurd (false≢true (ap is_ok e))
-past false f x e = (refl, e)
-
-both : (x y : Checked) → and_then x y ≡ Ok tt → (x ≡ Ok tt) × (y ≡ Ok tt)
-both (Ok tt) y e = (refl, e)
-both (Err f) y e = absurd (false≢true (ap is_ok e))
-
 pub row-passes : (i low : ℕ) (r : Row) (rs : List Row) → rows_check i low (r ∷ rs) ≡ Ok tt → (low < r.start) × (1 ≤ r.step) × (rows_check (i + 1) r.start rs ≡ Ok tt)
-row-passes i low r rs e =
-    let x2 : Checked = rows_check (i + 1) r.start rs in
-    let x1 : Checked = cond (nat_lt r.step 1) (Err (StepIsZero i)) x2 in
-    let a = past (nat_le r.start low) (StartNotRising i) x1 e in
-    let b = past (nat_lt r.step 1) (StepIsZero i) x2 a.1 in
-    (leb-false r.start low a.0, ltb-false r.step 1 b.0, b.1)
+row-passes i low r rs e = (grind (arith, common_steps), grind (arith, common_steps), grind (arith, common_steps))
 
 pub distance-passes : (i : ℕ) (r : Row) (rs : List Row) (end : ℕ) → distances_check i (r ∷ rs) end ≡ Ok tt → ((start_of rs end - r.start) % r.step ≤ 0) × (distances_check (i + 1) rs end ≡ Ok tt)
-distance-passes i r rs end e =
-    let a = past (nat_lt 0 ((start_of rs end - r.start) % r.step)) (UnevenDistance i) (distances_check (i + 1) rs end) e in
-    (ltb-false 0 ((start_of rs end - r.start) % r.step) a.0, a.1)
+distance-passes i r rs end e = (grind (arith, common_steps), grind (arith, common_steps))
 
--- the last row of a longer list is the last of its rest
-pub last-start : (r s : Row) (rs : List Row) → start_at (r ∷ s ∷ rs) (length (r ∷ s ∷ rs) - 1) ≡ start_at (s ∷ rs) (length (s ∷ rs) - 1)
-last-start r s rs =
-    let e : length (r ∷ s ∷ rs) - 1 ≡ suc (length (s ∷ rs) - 1) = omega arith in
-    ap (λ k. start_at (r ∷ s ∷ rs) k) e
-
+-- rows that pass are in order
 pub ordered : (i low : ℕ) (rs : List Row) (end : ℕ) → rows_check i low rs ≡ Ok tt → start_at rs (length rs - 1) ≤ end → Ordered rs end
 ordered i low [] end e l = tt
 ordered i low (r ∷ []) end e l = ((row-passes i low r [] e).1, l, tt)
 ordered i low (r ∷ s ∷ rs) end e l =
     let k = row-passes i low r (s ∷ rs) e in
     let m = row-passes (i + 1) r.start s rs k.2 in
-    (k.1, omega (arith, m.0), ordered (i + 1) r.start (s ∷ rs) end k.2 (omega (arith, l, last-start r s rs)))
+    (k.1, omega (arith, m.0), ordered (i + 1) r.start (s ∷ rs) end k.2 (grind (arith, common_steps)))
 
 -- each row's steps come out at the start of the next, or at the end
 abbrev pub Chain : List Row → ℕ → Type 0
@@ -121,37 +99,22 @@ pub record Found (rs : List Row) (end : ℕ) : Type 0 where
   pub high : end ≤ 1000000000
   pub few : length (ladder rs end) ≤ 1000000
 
-ok-is : (x : Checked) → is_ok x ≡ true → x ≡ Ok tt
-ok-is (Ok tt) e = refl
-ok-is (Err f) e = absurd (false≢true e)
-
 pub found : (rs : List Row) (end : ℕ) → is_ok (load_check rs end) ≡ true → Found rs end
 found rs end e =
-    let x6 : Checked = cond (nat_lt 1000000 (length (ladder rs end))) (Err TooManyTicks) (Ok tt) in
-    let x5 : Checked = and_then (distances_check 0 rs end) x6 in
-    let x4 : Checked = cond (nat_lt 1000000000 end) (Err EndTooHigh) x5 in
-    let x3 : Checked = cond (nat_lt end (start_at rs (length rs - 1))) (Err EndBelowStart) x4 in
-    let x2 : Checked = and_then (rows_check 0 0 rs) x3 in
-    let x1 : Checked = cond (nat_lt 16 (length rs)) (Err TooManyRows) x2 in
-    let a = past (nat_lt (length rs) 1) NoRows x1 (ok-is (load_check rs end) e) in
-    let b = past (nat_lt 16 (length rs)) TooManyRows x2 a.1 in
-    let c = both (rows_check 0 0 rs) x3 b.1 in
-    let d = past (nat_lt end (start_at rs (length rs - 1))) EndBelowStart x4 c.1 in
-    let f = past (nat_lt 1000000000 end) EndTooHigh x5 d.1 in
-    let g = both (distances_check 0 rs end) x6 f.1 in
-    let h = past (nat_lt 1000000 (length (ladder rs end))) TooManyTicks (Ok tt) g.1 in
-    let some' = ltb-false (length rs) 1 a.0 in
-    let ends' = ltb-false end (start_at rs (length rs - 1)) d.0 in
+    let fine' : rows_check 0 0 rs ≡ Ok tt = grind (arith, common_steps) in
+    let ends' : start_at rs (length rs - 1) ≤ end = grind (arith, common_steps) in
+    let even' : distances_check 0 rs end ≡ Ok tt = grind (arith, common_steps) in
+    let some' : 1 ≤ length rs = grind (arith, common_steps) in
     record {
-      fine = c.0;
+      fine = fine';
       ends = ends';
-      even = g.0;
-      chain = chained 0 rs end (ordered 0 0 rs end c.0 ends') g.0;
-      least = first_some rs end c.0 some';
+      even = even';
+      chain = chained 0 rs end (ordered 0 0 rs end fine' ends') even';
+      least = first_some rs end fine' some';
       some = some';
-      rows = ltb-false 16 (length rs) b.0;
-      high = ltb-false 1000000000 end f.0;
-      few = ltb-false 1000000 (length (ladder rs end)) h.0;
+      rows = grind (arith, common_steps);
+      high = grind (arith, common_steps);
+      few = grind (arith, common_steps);
     }
 
 -- each is at least `low`, and greater than the one before
@@ -203,13 +166,9 @@ tops [] end c (suc j) l = absurd (omega arith)
 tops (r ∷ rs) end c j l =
     tops-stretch r.start r.step _ _ end (omega (arith, c.2, start-end rs end c.3)) (tops rs end c.3) j l
 
-counted : (a s n : ℕ) (ts : List ℕ) → 1 ≤ length ts → 1 ≤ length (progression a s n ++ ts)
-counted a s zero ts h = h
-counted a s (suc n) ts h = omega arith
-
 pub one : (rs : List Row) (end : ℕ) → 1 ≤ length (ladder rs end)
 one [] end = omega arith
-one (r ∷ rs) end = counted r.start r.step _ _ (one rs end)
+one (r ∷ rs) end = let o = one rs end in omega (arith, length-append (stretch r (start_of rs end)) (ladder rs end))
 
 -- the banded rule
 pub lawful_banded : (rs : List Row) (end : ℕ) → is_ok (load_check rs end) ≡ true → Lawful (ladder rs end) (start_of rs end) end

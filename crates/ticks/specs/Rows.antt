@@ -1,5 +1,6 @@
 -- What the rows of a banded table mean, and what a load is refused for.
-use Rattle.std.specs.Prelude.{ℕ, ◌+◌, ◌-◌, ◌/◌, ◌%◌, ◌≤◌, cond, List, [], ◌∷◌, ◌++◌, length, Ok, Err, Result, nat_le, nat_lt, slice_index_or}
+use Rattle.std.specs.Prelude.{ℕ, ◌+◌, ◌-◌, ◌/◌, ◌%◌, ◌≤◌, cond, List, [], ◌∷◌, ◌++◌, length, None, Option, Ok, Err, Result, nat_le, nat_lt, slice_index_or}
+use Rattle.std.specs.List.{last_or, take_while}
 use Rattle.ticks.specs.declared.row.Row.{Row}
 use Rattle.ticks.specs.declared.banded.fault.BandedFault.{BandedFault}
 use Rattle.ticks.specs.declared.banded.fault.BandedFault.TheVariants.{NoRows, TooManyRows, StartNotRising, StepIsZero, EndBelowStart, EndTooHigh, UnevenDistance, TooManyTicks}
@@ -19,14 +20,9 @@ abbrev pub ladder : List Row → ℕ → List ℕ
 ladder [] end = end ∷ []
 ladder (r ∷ rs) end = stretch r (start_of rs end) ++ ladder rs end
 
--- the row of a fresh rule
-abbrev pub first_row : Row
-first_row = record { start = 1; step = 1 }
-
--- the last of the rows, in order, that starts at most at p; d before the first
-abbrev pub row_at : Row → List Row → ℕ → Row
-row_at d [] p = d
-row_at d (r ∷ rs) p = cond (nat_lt p r.start) d (row_at r rs p)
+-- the last of the rows, from the first on, that start at most at p, if there is one
+abbrev pub row_at : List Row → ℕ → Option Row
+row_at rows p = last_or None (take_while (λ r. nat_le r.start p) rows)
 
 -- no row
 abbrev pub blank : Row

@@ -4,7 +4,6 @@ mod asked;
 mod check;
 mod fault;
 mod load;
-mod search;
 mod table;
 
 pub use fault::BandedFault;

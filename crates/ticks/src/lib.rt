@@ -8,6 +8,8 @@
 mod band;
 mod banded;
 mod flat;
+mod in_row;
+mod ladder;
 mod lent;
 mod meaning;
 mod place;

@@ -32,16 +32,11 @@ impl<R: TickRule> TickRule for DailyBand<R> {
         if p < self.lower {
             return Err(Cause::BelowFloor);
         }
-        match self.rule.admit(p) {
-            Err(Cause::BelowFloor) => Err(Cause::BelowFloor),
-            inner => {
-                if p > self.upper {
-                    Err(Cause::AboveCeiling)
-                } else {
-                    inner
-                }
-            }
+        let inner = self.rule.admit(p);
+        if p > self.upper && inner != Err(Cause::BelowFloor) {
+            return Err(Cause::AboveCeiling);
         }
+        inner
     }
 
     fn above(&self, p: u32) -> Option<u32> {

@@ -4,8 +4,8 @@ ghost use Rattle.ticks.specs.BandedRules.{banded_rows, banded_ticks, banded_floo
 ghost use Rattle.ticks.specs.Evidence.{lawful_banded};
 ghost use Rattle.ticks.specs.Places.{Placed};
 
-use crate::banded::search::{row_at, start_at};
 use crate::banded::table::Banded;
+use crate::ladder::place;
 use crate::place::Place;
 use crate::rule::{Cause, TickRule};
 
@@ -14,15 +14,7 @@ impl Banded {
     fn place(&self, p: u32) -> Place
         ensures { Placed (banded_ticks self.now) (banded_floor self.now) (banded_ceiling self.now) p result }
     {
-        let rows = &self.rows[..self.used];
-        let first = start_at(rows, 0, self.end);
-        if p < first {
-            Place::Before(first)
-        } else if p < self.end {
-            Place::Within(row_at(rows, p))
-        } else {
-            Place::Past(self.end)
-        }
+        place(&self.rows[..self.used], self.end, p)
     }
 }
 
@@ -36,17 +28,14 @@ impl TickRule for Banded {
     ghost laws = { λ b. lawful_banded (banded_rows b) b.end b.sound };
 
     fn admit(&self, p: u32) -> Result<(), Cause> {
-        self.place(p).admit(p)
+        self.place(p).admit()
     }
 
     fn above(&self, p: u32) -> Option<u32> {
-        self.place(p).above(p)
+        self.place(p).above()
     }
 
     fn below(&self, p: u32) -> Option<u32> {
-        if p == 0 {
-            return None;
-        }
-        self.place(p - 1).at_most(p - 1)
+        p.checked_sub(1).and_then(|q| self.place(q).at_most())
     }
 }

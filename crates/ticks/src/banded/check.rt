@@ -1,11 +1,11 @@
 //! The conditions of a banded load, in order.
 
-ghost use Rattle.std.specs.Prelude.{◌≡◌, ◌+◌, ◌≤◌, length, OnOk};
+ghost use Rattle.std.specs.Prelude.{◌≡◌, ◌+◌, ◌≤◌, length, OnOk, MatchResult, Ok, Err};
 ghost use Rattle.ticks.specs.Rows.{ladder, rows_check, distances_check, load_check, Ordered};
 
 use crate::banded::fault::BandedFault;
-use crate::banded::search::start_at;
 use crate::banded::table::MAX_ROWS;
+use crate::ladder::start_of;
 use crate::row::Row;
 use crate::rule::MAX_TICKS;
 use market::limits::MAX_PRICE;
@@ -27,31 +27,21 @@ fn check_rows(rows: &[Row]) -> Result<(), BandedFault>
     Ok(())
 }
 
-// The distance from each start to the next, or from the last to the end, is a multiple of the step.
-fn check_distances(rows: &[Row], end: u32) -> Result<(), BandedFault>
+// The steps of the ladder from its first tick to its last, where the distance from each start to
+// the next, or from the last to the end, is a multiple of the step.
+fn count_steps(rows: &[Row], end: u32) -> Result<u32, BandedFault>
     requires { Ordered rows.now end }
-    ensures { result ≡ distances_check 0 rows.now end }
-{
-    for (i, row) in rows.iter().enumerate() {
-        let next = start_at(rows, i + 1, end);
-        if (next - row.start) % row.step > 0 {
-            return Err(BandedFault::UnevenDistance(i));
-        }
-    }
-    Ok(())
-}
-
-// How many steps the ladder has from its first tick to its last.
-fn step_count(rows: &[Row], end: u32) -> u32
-    requires { Ordered rows.now end }
-    ensures { result + 1 ≡ length (ladder rows.now end) }
+    ensures { MatchResult result (λ n. (distances_check 0 rows.now end ≡ Ok tt) × (n + 1 ≡ length (ladder rows.now end))) (λ fault. distances_check 0 rows.now end ≡ Err fault) }
 {
     let mut n = 0;
     for (i, row) in rows.iter().enumerate() {
-        let next = start_at(rows, i + 1, end);
-        n += (next - row.start) / row.step;
+        let distance = start_of(&rows[i + 1..], end) - row.start;
+        if distance % row.step > 0 {
+            return Err(BandedFault::UnevenDistance(i));
+        }
+        n += distance / row.step;
     }
-    n
+    Ok(n)
 }
 
 // The first condition that the rows and the end break, if any is broken.
@@ -59,21 +49,20 @@ pub(crate) fn check(rows: &[Row], end: u32) -> Result<(), BandedFault>
     ensures first { result ≡ load_check rows.now end }
     ensures few { OnOk result (length rows.now ≤ 16) }
 {
-    if rows.len() < 1 {
+    let Some(last) = rows.last() else {
         return Err(BandedFault::NoRows);
-    }
+    };
     if rows.len() > MAX_ROWS {
         return Err(BandedFault::TooManyRows);
     }
     check_rows(rows)?;
-    if end < rows[rows.len() - 1].start {
+    if end < last.start {
         return Err(BandedFault::EndBelowStart);
     }
     if end > MAX_PRICE {
         return Err(BandedFault::EndTooHigh);
     }
-    check_distances(rows, end)?;
-    if step_count(rows, end) >= MAX_TICKS {
+    if count_steps(rows, end)? >= MAX_TICKS {
         return Err(BandedFault::TooManyTicks);
     }
     Ok(())

@@ -7,14 +7,14 @@ ghost use Rattle.ticks.specs.BandedRules.{banded_ticks, banded_floor, banded_cei
 use crate::banded::check::check;
 use crate::banded::fault::BandedFault;
 use crate::banded::table::{Banded, MAX_ROWS};
-use crate::row::Row;
+use crate::row::{FIRST_ROW, Row};
 
 // Sixteen rows that begin with `rows`.
 fn held(rows: &[Row]) -> [Row; MAX_ROWS]
     requires { length rows.now ≤ 16 }
     ensures { take (length rows.now) result ≡ rows.now }
 {
-    let mut all = [Row { start: 1, step: 1 }; MAX_ROWS];
+    let mut all = [FIRST_ROW; MAX_ROWS];
     all[..rows.len()].copy_from_slice(rows);
     all
 }
@@ -27,7 +27,7 @@ impl Banded {
         ensures ceiling { banded_ceiling result ≡ 1 }
     {
         Banded {
-            rows: [Row { start: 1, step: 1 }; MAX_ROWS],
+            rows: [FIRST_ROW; MAX_ROWS],
             used: 1,
             end: 1,
         }

@@ -11,6 +11,7 @@ pub const MAX_ROWS: usize = 16;
 /// A tick table of 1 to 16 rows and an end; floor and ceiling are the first and the last tick.
 #[derive(Clone, Copy)]
 pub struct Banded {
+    // the first `used` of them count; a list type would not be `Copy`
     pub(crate) rows: [Row; MAX_ROWS],
     pub(crate) used: usize,
     pub(crate) end: u32,

@@ -5,6 +5,7 @@ ghost use Rattle.ticks.specs.FlatRules.{flat_ticks, flat_floor, flat_ceiling};
 ghost use Rattle.ticks.specs.Places.{Placed};
 
 use crate::flat::Flat;
+use crate::ladder::place;
 use crate::place::Place;
 use crate::row::Row;
 use crate::rule::{Cause, TickRule};
@@ -15,16 +16,11 @@ impl Flat {
         ensures { Placed (flat_ticks self.now) (flat_floor self.now) (flat_ceiling self.now) p result }
     {
         let last = self.first + self.step * (self.count - 1);
-        if p < self.first {
-            Place::Before(self.first)
-        } else if p < last {
-            Place::Within(Row {
-                start: self.first,
-                step: self.step,
-            })
-        } else {
-            Place::Past(last)
-        }
+        let row = Row {
+            start: self.first,
+            step: self.step,
+        };
+        place(&[row], last, p)
     }
 }
 
@@ -38,17 +34,14 @@ impl TickRule for Flat {
     ghost laws = { λ f. lawful_flat f.first f.step f.count f.sound };
 
     fn admit(&self, p: u32) -> Result<(), Cause> {
-        self.place(p).admit(p)
+        self.place(p).admit()
     }
 
     fn above(&self, p: u32) -> Option<u32> {
-        self.place(p).above(p)
+        self.place(p).above()
     }
 
     fn below(&self, p: u32) -> Option<u32> {
-        if p == 0 {
-            return None;
-        }
-        self.place(p - 1).at_most(p - 1)
+        p.checked_sub(1).and_then(|q| self.place(q).at_most())
     }
 }

@@ -1,17 +1,14 @@
-use Rattle.ticks.proofs.FlatPlaces.{placed-before, placed-within, placed_past}
+use Rattle.std.proofs.Common.{List, ℕ, subst, ◌+◌, ◌-◌, ◌*◌}
+use Rattle.ticks.specs.Places.{Placed}
+use Rattle.ticks.proofs.OneRow.{load-one, ladder-one}
 use Rattle.ticks.proofs.flat.Flat.place.Goals as goal
 
-pub returns-then-p-self : goal.returns-then-p-self
-returns-then-p-self c =
+pub place-requires : goal.place-requires
+place-requires c =
     let f = c.args.self.now in
-    placed-before f.first f.step f.count f.sound c.args.p c.if-p-self.true
+    load-one f.first f.step f.count f.sound
 
-pub returns-then-p-last : goal.returns-then-p-last
-returns-then-p-last c =
+pub returns : goal.returns
+returns c =
     let f = c.args.self.now in
-    placed-within f.first f.step f.count f.sound c.args.p c.if-p-self.false c.if-p-last.true
-
-pub returns-else-p-last : goal.returns-else-p-last
-returns-else-p-last c =
-    let f = c.args.self.now in
-    placed_past f.first f.step f.count f.sound c.args.p c.if-p-last.false
+    subst (λ (ts : List ℕ). Placed ts f.first (f.first + f.step * (f.count - 1)) c.args.p c.place.result) (ladder-one f.first f.step f.count f.sound) c.place.ensures
