@@ -1,7 +1,7 @@
 //! A table of questions, asked of any rule.
 
 use std::process::Abort;
-use ticks::{Cause, Row, TickRule};
+use ticks::{Banded, BandedFault, Cause, Row, TickRule};
 
 // A price with what admit, above and below answer there.
 pub(crate) type Asked = (u32, Result<(), Cause>, Option<u32>, Option<u32>);
@@ -28,4 +28,11 @@ pub(crate) fn ask<R: TickRule>(rt: &impl Abort, rule: &R, table: &[Asked]) {
 // A row of a banded table.
 pub(crate) fn row(start: u32, step: u32) -> Row {
     Row { start, step }
+}
+
+// A banded rule with the table of `rows` and `end`.
+pub(crate) fn banded(rows: &[Row], end: u32) -> Result<Banded, BandedFault> {
+    let mut rule = Banded::new();
+    rule.load(rows, end)?;
+    Ok(rule)
 }

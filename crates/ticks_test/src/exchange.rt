@@ -3,16 +3,11 @@
 //! A buy's price goes up to the next tick and a sale's down, and a price that is a tick stays. Raw
 //! prices are cut to whole ten-thousandths, which leaves them between the same two ticks.
 
-use crate::asked::{C, F, N, TOP, Y, ask, row};
+use crate::asked::{C, F, N, TOP, Y, ask, banded, row};
+use market::Side;
 use std::process::Abort;
 use std::test::Fail;
-use ticks::{Banded, DailyBand, Flat, TickRule};
-
-#[derive(Clone, Copy)]
-enum Side {
-    Buy,
-    Sale,
-}
+use ticks::{DailyBand, Flat, TickRule};
 
 // The price that an order of the side is converted to.
 fn converted<R: TickRule>(rule: &R, side: Side, raw: u32) -> Option<u32> {
@@ -21,7 +16,7 @@ fn converted<R: TickRule>(rule: &R, side: Side, raw: u32) -> Option<u32> {
     }
     match side {
         Side::Buy => rule.above(raw),
-        Side::Sale => rule.below(raw),
+        Side::Offer => rule.below(raw),
     }
 }
 
@@ -41,13 +36,13 @@ fn index_futures(rt: HostRuntime) -> Result<(), Fail> {
         &rule,
         &[
             (Side::Buy, 94_580_341, 94_590_000),
-            (Side::Sale, 93_659_658, 93_650_000),
+            (Side::Offer, 93_659_658, 93_650_000),
             (Side::Buy, 115_170, 120_000),
             (Side::Buy, 94_680_841, 94_690_000),
-            (Side::Sale, 93_759_158, 93_750_000),
+            (Side::Offer, 93_759_158, 93_750_000),
             (Side::Buy, 115_420, 120_000),
             (Side::Buy, 94_590_000, 94_590_000),
-            (Side::Sale, 94_590_000, 94_590_000),
+            (Side::Offer, 94_590_000, 94_590_000),
         ],
     );
     ask(
@@ -70,7 +65,7 @@ fn gold_futures(rt: HostRuntime) -> Result<(), Fail> {
         &rule,
         &[
             (Side::Buy, 45_395_750, 45_400_000),
-            (Side::Sale, 44_979_250, 44_975_000),
+            (Side::Offer, 44_979_250, 44_975_000),
             (Side::Buy, 127_875, 130_000),
         ],
     );
@@ -88,7 +83,6 @@ fn gold_futures(rt: HostRuntime) -> Result<(), Fail> {
 // Index options.
 #[test]
 fn index_options(rt: HostRuntime) -> Result<(), Fail> {
-    let mut rule = Banded::new();
     let rows = [
         row(1_000, 1_000),
         row(100_000, 5_000),
@@ -96,19 +90,19 @@ fn index_options(rt: HostRuntime) -> Result<(), Fail> {
         row(5_000_000, 50_000),
         row(10_000_000, 100_000),
     ];
-    rule.load(&rows, 100_000_000)?;
+    let rule = banded(&rows, 100_000_000)?;
     convert(
         &rt,
         &rule,
         &[
             (Side::Buy, 608_136, 610_000),
-            (Side::Sale, 236_863, 235_000),
+            (Side::Offer, 236_863, 235_000),
             (Side::Buy, 24_088_136, 24_100_000),
-            (Side::Sale, 24_111_863, 24_100_000),
+            (Side::Offer, 24_111_863, 24_100_000),
             (Side::Buy, 608_336, 610_000),
-            (Side::Sale, 236_663, 235_000),
+            (Side::Offer, 236_663, 235_000),
             (Side::Buy, 24_088_336, 24_100_000),
-            (Side::Sale, 24_111_663, 24_100_000),
+            (Side::Offer, 24_111_663, 24_100_000),
         ],
     );
     ask(
@@ -128,10 +122,9 @@ fn index_options(rt: HostRuntime) -> Result<(), Fail> {
     Ok(())
 }
 
-// Single-stock futures, and the spread between two months, which steps evenly.
+// Single-stock futures.
 #[test]
 fn stock_futures(rt: HostRuntime) -> Result<(), Fail> {
-    let mut rule = Banded::new();
     let rows = [
         row(100, 100),
         row(100_000, 500),
@@ -140,13 +133,13 @@ fn stock_futures(rt: HostRuntime) -> Result<(), Fail> {
         row(5_000_000, 10_000),
         row(10_000_000, 50_000),
     ];
-    rule.load(&rows, 100_000_000)?;
+    let rule = banded(&rows, 100_000_000)?;
     convert(
         &rt,
         &rule,
         &[
             (Side::Buy, 2_015_050, 2_020_000),
-            (Side::Sale, 1_984_950, 1_980_000),
+            (Side::Offer, 1_984_950, 1_980_000),
         ],
     );
     ask(
@@ -162,6 +155,12 @@ fn stock_futures(rt: HostRuntime) -> Result<(), Fail> {
             (TOP, C, None, Some(100_000_000)),
         ],
     );
+    Ok(())
+}
+
+// The spread between two months of single-stock futures, which steps evenly.
+#[test]
+fn stock_futures_spread(rt: HostRuntime) -> Result<(), Fail> {
     let spread = Flat::new(100, 100, 1_000_000)?;
     convert(&rt, &spread, &[(Side::Buy, 5_025, 5_100)]);
     ask(
@@ -175,7 +174,6 @@ fn stock_futures(rt: HostRuntime) -> Result<(), Fail> {
 // Single-stock options; the day's limits are a band.
 #[test]
 fn stock_options(rt: HostRuntime) -> Result<(), Fail> {
-    let mut rule = Banded::new();
     let rows = [
         row(100, 100),
         row(50_000, 500),
@@ -184,7 +182,7 @@ fn stock_options(rt: HostRuntime) -> Result<(), Fail> {
         row(1_500_000, 10_000),
         row(10_000_000, 50_000),
     ];
-    rule.load(&rows, 100_000_000)?;
+    let rule = banded(&rows, 100_000_000)?;
     convert(&rt, &rule, &[(Side::Buy, 20_250, 20_300)]);
     ask(
         &rt,

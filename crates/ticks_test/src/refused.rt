@@ -1,17 +1,9 @@
 //! Every condition of 15 and 16 broken, one at a time, and the letters of the causes.
 
-use crate::asked::{C, F, N, TOP, Y, ask, row};
+use crate::asked::{C, F, N, TOP, Y, ask, banded, row};
 use std::process::Abort;
 use std::test::Fail;
-use ticks::{Banded, BandedFault, Cause, Flat, FlatFault, Row, TickRule};
-
-// The fault of a flat rule that is refused.
-fn flat_fault(first: u32, step: u32, count: u32) -> Option<FlatFault> {
-    match Flat::new(first, step, count) {
-        Ok(_) => None,
-        Err(fault) => Some(fault),
-    }
-}
+use ticks::{BandedFault, Cause, Flat, FlatFault, Row, TickRule};
 
 #[test]
 fn flat_refusals(rt: HostRuntime) {
@@ -28,7 +20,7 @@ fn flat_refusals(rt: HostRuntime) {
         (1_000_000_000, TOP, 1, None),
     ];
     for (first, step, count, fault) in table {
-        assert_eq!(rt; flat_fault(first, step, count), fault);
+        assert_eq!(rt; Flat::new(first, step, count).err(), fault);
     }
     assert_eq!(rt; FlatFault::LastTooHigh.number(), 15);
 }
@@ -37,19 +29,12 @@ const SINGLE: Row = Row { start: 1, step: 1 };
 
 // Sixteen rows and one more, each with one tick.
 fn many_rows() -> [Row; 17] {
-    let mut rows = [SINGLE; 17];
-    let mut start = 1;
-    for row in rows.iter_mut() {
-        row.start = start;
-        start = start.saturating_add(1);
-    }
-    rows
+    std::array::from_fn(|i| row(i as u32 + 1, 1))
 }
 
 // That the load is refused for `fault`, and that the rule with the ticks 10, 12 .. 20 stays.
 fn refused(rt: &impl Abort, rows: &[Row], end: u32, fault: BandedFault) -> Result<(), Fail> {
-    let mut rule = Banded::new();
-    rule.load(&[row(10, 2)], 20)?;
+    let mut rule = banded(&[row(10, 2)], 20)?;
     assert_eq!(rt; rule.load(rows, end), Err(fault));
     assert_eq!(rt; fault.number(), 16);
     ask(
@@ -91,16 +76,9 @@ fn banded_refusals(rt: HostRuntime) -> Result<(), Fail> {
 
 #[test]
 fn banded_limits(rt: HostRuntime) -> Result<(), Fail> {
-    let mut rule = Banded::new();
-    rule.load(&[SINGLE], 1_000_000)?;
+    let mut rule = banded(&[SINGLE], 1_000_000)?;
     assert_eq!(rt; rule.above(999_999), Some(1_000_000));
-    rule.load(
-        &[Row {
-            start: 1_000_000_000,
-            step: TOP,
-        }],
-        1_000_000_000,
-    )?;
+    rule.load(&[row(1_000_000_000, TOP)], 1_000_000_000)?;
     assert_eq!(rt; rule.above(0), Some(1_000_000_000));
     rule.load(&many_rows()[0..16], 16)?;
     assert_eq!(rt; rule.below(TOP), Some(16));

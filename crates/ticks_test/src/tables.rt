@@ -1,6 +1,6 @@
 //! Worked examples and real tables, in ten-thousandths.
 
-use crate::asked::{C, F, N, TOP, Y, ask, row};
+use crate::asked::{C, F, N, TOP, Y, ask, banded, row};
 use std::test::Fail;
 use ticks::{Banded, DailyBand, Flat, Row, TickRule};
 
@@ -23,8 +23,7 @@ fn fresh(rt: HostRuntime) {
 
 #[test]
 fn two_rows(rt: HostRuntime) -> Result<(), Fail> {
-    let mut rule = Banded::new();
-    rule.load(&TWO_ROWS, 30)?;
+    let rule = banded(&TWO_ROWS, 30)?;
     ask(
         &rt,
         &rule,
@@ -99,7 +98,13 @@ fn daily_band(rt: HostRuntime) -> Result<(), Fail> {
             (TOP, C, None, Some(1_000_000_000)),
         ],
     );
-    // the band's own prices lie outside the ticks: the rule's floor and ceiling stand
+    Ok(())
+}
+
+// The band's own prices lie outside the ticks: the rule's floor and ceiling stand.
+#[test]
+fn wide_band(rt: HostRuntime) -> Result<(), Fail> {
+    let flat = Flat::new(1_000, 1_000, 1_000_000)?;
     let wide = DailyBand::new(flat, 0, TOP);
     ask(
         &rt,
@@ -110,7 +115,13 @@ fn daily_band(rt: HostRuntime) -> Result<(), Fail> {
             (TOP, C, None, Some(1_000_000_000)),
         ],
     );
-    // floor and ceiling cross: nothing is admitted, and F goes before C
+    Ok(())
+}
+
+// Floor and ceiling cross: nothing is admitted, and F goes before C.
+#[test]
+fn crossed_band(rt: HostRuntime) -> Result<(), Fail> {
+    let flat = Flat::new(1_000, 1_000, 1_000_000)?;
     let crossed = DailyBand::new(flat, 130_000, 100_000);
     ask(
         &rt,
@@ -128,8 +139,7 @@ fn daily_band(rt: HostRuntime) -> Result<(), Fail> {
 
 #[test]
 fn band_over_band(rt: HostRuntime) -> Result<(), Fail> {
-    let mut rule = Banded::new();
-    rule.load(&TWO_ROWS, 30)?;
+    let rule = banded(&TWO_ROWS, 30)?;
     let inner = DailyBand::new(&rule, 12, 25);
     let outer = DailyBand::new(&inner, 11, 20);
     ask(
@@ -165,7 +175,6 @@ fn band_over_band(rt: HostRuntime) -> Result<(), Fail> {
 // Thai shares: the table of steps by price, up to 1,000 baht.
 #[test]
 fn thai_shares(rt: HostRuntime) -> Result<(), Fail> {
-    let mut rule = Banded::new();
     let rows = [
         row(100, 100),
         row(20_000, 200),
@@ -176,7 +185,7 @@ fn thai_shares(rt: HostRuntime) -> Result<(), Fail> {
         row(2_000_000, 10_000),
         row(4_000_000, 20_000),
     ];
-    rule.load(&rows, 10_000_000)?;
+    let rule = banded(&rows, 10_000_000)?;
     ask(
         &rt,
         &rule,
