@@ -54,7 +54,7 @@ impl<R: TickRule, S: OrderSheet> Book<R, S> {
         check_start(&self.rule, prior, last)?;
         self.phase = Phase::Calling;
         self.prior = prior;
-        self.last = if last == 0 { None } else { Some(last) };
+        self.last = (last != 0).then_some(last);
         Ok(Answer::Started)
     }
 

@@ -14,6 +14,7 @@ spare l = drop l.len l.rows.now
 abbrev pub size : {E : Type 0} → LentList E → ℕ
 size l = length l.rows.now
 
--- every row that is spare afterwards is as it was before
-abbrev pub SpareKept : {E : Type 0} → LentList E → LentList E → Type 0
-SpareKept before after = spare after ≡ drop after.len before.rows.now
+-- as many rows as before, and every row that is spare afterwards is as it was before
+pub record RowsKept {E : Type 0} (before after : LentList E) : Type 0 where
+  pub size : size after ≡ size before
+  pub spare : spare after ≡ drop after.len before.rows.now

@@ -11,7 +11,7 @@ pub struct LentList<'a, E> {
 }
 
 impl<'a, E: Copy> LentList<'a, E> {
-    ghost use Rattle.ordered.specs.Lent.{entries, size, SpareKept};
+    ghost use Rattle.ordered.specs.Lent.{entries, size, RowsKept};
     ghost use Rattle.ordered.specs.Sorting.{Sorted};
 
     /// An empty list, whatever the rows hold.
@@ -40,8 +40,7 @@ impl<'a, E: Copy> LentList<'a, E> {
     pub fn set(&mut self, at: usize, entry: E)
         requires { at < length (entries self.old) }
         ensures entries { entries self.new ≡ slice_set (entries self.old) at entry }
-        ensures size { size self.new ≡ size self.old }
-        ensures spare { SpareKept self.old self.new }
+        ensures rows { RowsKept self.old self.new }
     {
         let held = &mut self.rows[..self.len];
         held[at] = entry;
@@ -51,8 +50,7 @@ impl<'a, E: Copy> LentList<'a, E> {
     pub fn push(&mut self, entry: E)
         requires { length (entries self.old) < size self.old }
         ensures entries { entries self.new ≡ entries self.old ++ entry ∷ [] }
-        ensures size { size self.new ≡ size self.old }
-        ensures spare { SpareKept self.old self.new }
+        ensures rows { RowsKept self.old self.new }
     {
         let end = self.len();
         self.insert(end, entry);
@@ -63,8 +61,7 @@ impl<'a, E: Copy> LentList<'a, E> {
         requires room { length (entries self.old) < size self.old }
         requires within { at ≤ length (entries self.old) }
         ensures entries { entries self.new ≡ insert (entries self.old) at entry }
-        ensures size { size self.new ≡ size self.old }
-        ensures spare { SpareKept self.old self.new }
+        ensures rows { RowsKept self.old self.new }
     {
         self.rows.copy_within(at..self.len, at + 1);
         self.rows[at] = entry;
@@ -77,8 +74,7 @@ impl<'a, E: Copy> LentList<'a, E> {
         requires { at < length (entries self.old) }
         ensures value { (d : E) → result ≡ slice_index_or (entries self.old) at d }
         ensures entries { entries self.new ≡ remove (entries self.old) at }
-        ensures size { size self.new ≡ size self.old }
-        ensures spare { SpareKept self.old self.new }
+        ensures rows { RowsKept self.old self.new }
     {
         let entry = self.rows[at];
         self.rows.copy_within(at + 1..self.len, at);

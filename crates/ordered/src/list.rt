@@ -18,7 +18,7 @@ pub struct OrderedList<'a, E, R: Ranking<E>> {
 
 impl<'a, E: Copy, R: Ranking<E>> OrderedList<'a, E, R> {
     ghost use Rattle.ordered.specs.Meaning.{held, lent};
-    ghost use Rattle.ordered.specs.Lent.{size, SpareKept};
+    ghost use Rattle.ordered.specs.Lent.{size, RowsKept};
 
     /// An empty list, whatever the rows hold.
     pub fn new(rows: &'a mut [E], ranking: R) -> OrderedList<'a, E, R>
@@ -45,8 +45,7 @@ impl<'a, E: Copy, R: Ranking<E>> OrderedList<'a, E, R> {
         ensures held { held self.new ≡ insert_by (ranked (R.Ranking.ahead self.old.ranking) (R.Ranking.key_of self.old.ranking)) entry (held self.old) }
         ensures sorted { AllByRecursion (λ x. R.Ranking.key_of self.old.ranking x ≢ R.Ranking.key_of self.old.ranking entry) (held self.old) → Sorted (ranked (R.Ranking.ahead self.old.ranking) (R.Ranking.key_of self.old.ranking)) (held self.old) → Sorted (ranked (R.Ranking.ahead self.old.ranking) (R.Ranking.key_of self.old.ranking)) (held self.new) }
         ensures ranking { self.new.ranking ≡ self.old.ranking }
-        ensures size { size (lent self.new) ≡ size (lent self.old) }
-        ensures spare { SpareKept (lent self.old) (lent self.new) }
+        ensures rows { RowsKept (lent self.old) (lent self.new) }
     {
         let at = self.place(&self.ranking.key(&entry));
         self.list.insert(at, entry);
@@ -59,8 +58,7 @@ impl<'a, E: Copy, R: Ranking<E>> OrderedList<'a, E, R> {
         ensures held { held self.new ≡ remove (held self.old) at }
         ensures sorted { (order : E → E → Bool) → Sorted order (held self.old) → Sorted order (held self.new) }
         ensures ranking { self.new.ranking ≡ self.old.ranking }
-        ensures size { size (lent self.new) ≡ size (lent self.old) }
-        ensures spare { SpareKept (lent self.old) (lent self.new) }
+        ensures rows { RowsKept (lent self.old) (lent self.new) }
     {
         self.list.remove(at)
     }

@@ -1,18 +1,17 @@
 -- What an edit of its orders leaves of an arrival sheet.
 use Rattle.std.proofs.Common.{◌≡◌, true, false, List, ap, ◌∙◌}
 use Rattle.ordered.specs.declared.lent.LentList.{LentList}
-use Rattle.ordered.specs.Lent.{entries, size, SpareKept}
+use Rattle.ordered.specs.Lent.{entries}
 use Rattle.market.specs.declared.order.Order.{Order}
 use Rattle.sheets.specs.declared.arrival.ArrivalSheet.{ArrivalSheet}
 use Rattle.sheets.specs.Sides.{numbered, without, take_from, put_in, full}
-use Rattle.sheets.specs.Rows.{arranged, put_of, SpareRowsKept}
+use Rattle.sheets.specs.Rows.{arranged, put_of}
 use Rattle.sheets.specs.Tests.{is_apart, is_sheet}
 use Rattle.sheets.specs.Laws.{Apart, Bounded}
-use Rattle.sheets.specs.Held.{rows_of, arrivals, held_by_arrival, rows_by_arrival}
+use Rattle.sheets.specs.Held.{arrivals, held_by_arrival}
 use Rattle.sheets.specs.Evidence.{apart_from, arrival_laws}
 use Rattle.sheets.proofs.Numbers.{apart-kept}
 use Rattle.sheets.proofs.Keeps.{tested, take-lawful, put-lawful, apart-to}
-use Rattle.sheets.proofs.Spares.{rows-kept}
 use Rattle.sheets.proofs.Lines.{arranged-take, arranged-put, apart-put}
 
 pub apart-arrivals : (s : ArrivalSheet) → Apart (arrivals s)
@@ -38,6 +37,3 @@ module _ (s : ArrivalSheet) (l : LentList Order) where
         sheet = ap (λ (xs : List Order). is_sheet s.capacity (arranged xs)) e ∙ ap (is_sheet s.capacity) (arranged-take k (arrivals s) (apart-arrivals s))
             ∙ tested s.capacity (take_from k (held_by_arrival s)) (take-lawful s.capacity k (held_by_arrival s) (arrival_laws s));
       }
-
-  pub kept_rows : size l ≡ size s.orders → SpareKept s.orders l → SpareRowsKept (rows_by_arrival s) (rows_of l)
-  kept_rows e k = rows-kept s.orders.len l.len s.orders.rows.now l.rows.now e k

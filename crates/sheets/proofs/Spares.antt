@@ -3,10 +3,13 @@ use Rattle.std.proofs.Common.{◌≡◌, ℕ, zero, suc, ◌+◌, ◌-◌, ◌�
 use Rattle.std.proofs.lemmas.List.{drop-drop}
 use Rattle.std.proofs.lemmas.Bool.{both_ways}
 use Rattle.market.specs.declared.order.Order.{Order}
+use Rattle.ordered.specs.declared.lent.LentList.{LentList}
+use Rattle.ordered.specs.Lent.{RowsKept}
 use Rattle.sheets.specs.Rows.{Row, marked, SpareRowsKept}
+use Rattle.sheets.specs.Held.{rows_of}
 
 -- the rows from n on are as they were, where the first n hold orders afterwards
-pub rows-kept : (m n : ℕ) (xs ys : List Order) → length ys ≡ length xs → drop n ys ≡ drop n xs → SpareRowsKept (marked m xs) (marked n ys)
+rows-kept : (m n : ℕ) (xs ys : List Order) → length ys ≡ length xs → drop n ys ≡ drop n xs → SpareRowsKept (marked m xs) (marked n ys)
 rows-kept zero zero [] [] l e = tt
 rows-kept zero (suc n) [] [] l e = tt
 rows-kept (suc m) zero [] [] l e = tt
@@ -17,6 +20,10 @@ rows-kept zero zero (x ∷ xs) (y ∷ ys) l e = let h : y ≡ x = cc in let t : 
 rows-kept (suc m) zero (x ∷ xs) (y ∷ ys) l e = let h : y ≡ x = cc in let t : ys ≡ xs = cc in ((λ _. h), rows-kept m zero xs ys (omega arith) t)
 rows-kept zero (suc n) (x ∷ xs) (y ∷ ys) l e = ((λ h. absurd (both_ways false refl h)), rows-kept zero n xs ys (omega arith) e)
 rows-kept (suc m) (suc n) (x ∷ xs) (y ∷ ys) l e = ((λ h. absurd (both_ways false refl h)), rows-kept m n xs ys (omega arith) e)
+
+-- the same of a lent list
+pub kept_rows : (l m : LentList Order) → RowsKept l m → SpareRowsKept (rows_of l) (rows_of m)
+kept_rows l m k = rows-kept l.len m.len l.rows.now m.rows.now k.size k.spare
 
 -- two lots of rows
 pub lots_kept : (es bs cs ds : List Row) → SpareRowsKept es bs → SpareRowsKept cs ds → SpareRowsKept (es ++ cs) (bs ++ ds)

@@ -1,7 +1,7 @@
 -- What the two sheets hold, and their rows.
 use Rattle.std.specs.Prelude.{◌≤◌, List, ◌++◌}
 use Rattle.ordered.specs.declared.lent.LentList.{LentList}
-use Rattle.ordered.specs.Lent.{entries, SpareKept}
+use Rattle.ordered.specs.Lent.{entries, RowsKept}
 use Rattle.ordered.specs.Meaning.{held, lent}
 use Rattle.market.specs.declared.order.Order.{Order}
 use Rattle.sheets.specs.declared.priority.PrioritySheet.{PrioritySheet}
@@ -21,9 +21,9 @@ held_by_priority s = sides_of (held s.buys) (held s.offers)
 abbrev pub rows_by_priority : PrioritySheet → List Row
 rows_by_priority s = rows_of (lent s.buys) ++ rows_of (lent s.offers)
 
--- in both lists of a priority sheet, every row that is spare afterwards is as it was before
+-- in both lists of a priority sheet, as many rows as before, and every row that is spare afterwards is as it was before
 abbrev pub ListsKept : PrioritySheet → PrioritySheet → Type 0
-ListsKept before after = SpareKept (lent before.buys) (lent after.buys) × SpareKept (lent before.offers) (lent after.offers)
+ListsKept before after = RowsKept (lent before.buys) (lent after.buys) × RowsKept (lent before.offers) (lent after.offers)
 
 -- neither list of a priority sheet is shorter afterwards
 abbrev pub NoShorter : PrioritySheet → PrioritySheet → Type 0

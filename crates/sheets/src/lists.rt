@@ -1,6 +1,6 @@
 // Orders of one side in an ordered list.
 ghost use Rattle.std.specs.Prelude.{◌≡◌, ◌≤◌, false, length, is_some, find};
-ghost use Rattle.ordered.specs.Lent.{size, SpareKept};
+ghost use Rattle.ordered.specs.Lent.{RowsKept};
 ghost use Rattle.ordered.specs.Meaning.{held, lent};
 ghost use Rattle.sheets.specs.Sides.{numbered, is_behind, over, without};
 ghost use Rattle.sheets.specs.Laws.{Apart};
@@ -34,8 +34,7 @@ pub(crate) fn take_from(list: &mut SideList, number: u32) -> Option<Order>
     ensures value { result ≡ find (numbered number) (held list.old) }
     ensures held { held list.new ≡ without number (held list.old) }
     ensures ranking { list.new.ranking ≡ list.old.ranking }
-    ensures size { size (lent list.new) ≡ size (lent list.old) }
-    ensures spare { SpareKept (lent list.old) (lent list.new) }
+    ensures rows { RowsKept (lent list.old) (lent list.new) }
     ensures absent { is_some result ≡ false → list.new ≡ list.old }
 {
     let at = list.position(|order| order.number == number)?;

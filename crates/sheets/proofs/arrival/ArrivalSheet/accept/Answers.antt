@@ -8,7 +8,8 @@ use Rattle.sheets.specs.Evidence.{arrival_laws}
 use Rattle.sheets.proofs.Numbers.{any-missing}
 use Rattle.sheets.proofs.Places.{found, row_put, row-behind}
 use Rattle.sheets.proofs.Lines.{arranged-put, place-rows}
-use Rattle.sheets.proofs.Arrivals.{apart-arrivals, lawful_put, kept_rows}
+use Rattle.sheets.proofs.Arrivals.{apart-arrivals, lawful_put}
+use Rattle.sheets.proofs.Spares.{kept_rows}
 use Rattle.sheets.proofs.arrival.ArrivalSheet.accept.Goals as goal
 
 pub set-requires : goal.set-requires
@@ -21,7 +22,7 @@ invariant_of-self c =
     let r = c.set.ensures in
     let small : Bounded o = record { number = omega arith; price = omega arith; rank = omega arith; quantity = omega arith } in
     let l = lawful_put s c.set.new.self o c.requires small (r.entries ∙ row_put (numbered o.number) o (arrivals s) c.in-Some.at (sym c.in-Some.is ∙ c.index.ensures)) in
-    record { both = r.size ∙ s.both; apart = l.apart; lawful = l.sheet }
+    record { both = r.rows.size ∙ s.both; apart = l.apart; lawful = l.sheet }
 
 pub push-requires : goal.push-requires
 push-requires c =
@@ -37,7 +38,7 @@ invariant_of-self-in-None c =
     let r = c.push.ensures in
     let small : Bounded o = record { number = omega arith; price = omega arith; rank = omega arith; quantity = omega arith } in
     let l = lawful_put s c.push.new.self o c.requires small (r.entries ∙ row-behind (numbered o.number) o (arrivals s) (any-missing (numbered o.number) (arrivals s) (sym c.in-None.is ∙ c.index.ensures))) in
-    record { both = r.size ∙ s.both; apart = l.apart; lawful = l.sheet }
+    record { both = r.rows.size ∙ s.both; apart = l.apart; lawful = l.sheet }
 
 pub returns-in-Some : goal.returns-in-Some
 returns-in-Some c =
@@ -45,7 +46,7 @@ returns-in-Some c =
     let o = c.args.order in
     let r = c.set.ensures in
     let put : entries c.set.new.self ≡ put_of (numbered o.number) o (arrivals s) = r.entries ∙ row_put (numbered o.number) o (arrivals s) c.in-Some.at (sym c.in-Some.is ∙ c.index.ensures) in
-    record { after = ap arranged put ∙ arranged-put o (arrivals s) (apart-arrivals s); size = refl; rows = kept_rows s c.set.new.self r.size r.spare; order = put }
+    record { after = ap arranged put ∙ arranged-put o (arrivals s) (apart-arrivals s); size = refl; rows = kept_rows s.orders c.set.new.self r.rows; order = put }
 
 pub returns-in-None : goal.returns-in-None
 returns-in-None c =
@@ -54,4 +55,4 @@ returns-in-None c =
     let r = c.push.ensures in
     let put : entries c.push.new.self ≡ put_of (numbered o.number) o (arrivals s) =
     r.entries ∙ row-behind (numbered o.number) o (arrivals s) (any-missing (numbered o.number) (arrivals s) (sym c.in-None.is ∙ c.index.ensures)) in
-    record { after = ap arranged put ∙ arranged-put o (arrivals s) (apart-arrivals s); size = refl; rows = kept_rows s c.push.new.self r.size r.spare; order = put }
+    record { after = ap arranged put ∙ arranged-put o (arrivals s) (apart-arrivals s); size = refl; rows = kept_rows s.orders c.push.new.self r.rows; order = put }

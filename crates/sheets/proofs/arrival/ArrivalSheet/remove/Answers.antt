@@ -6,9 +6,9 @@ use Rattle.sheets.specs.Rows.{arranged}
 use Rattle.sheets.specs.Held.{arrivals, held_by_arrival}
 use Rattle.sheets.proofs.Numbers.{removed_is, missing-is, first_found, first-missing}
 use Rattle.sheets.proofs.Places.{found}
-use Rattle.sheets.proofs.Spares.{when_some, when_none}
+use Rattle.sheets.proofs.Spares.{kept_rows, when_some, when_none}
 use Rattle.sheets.proofs.Lines.{find-arranged, arranged-take}
-use Rattle.sheets.proofs.Arrivals.{apart-arrivals, lawful_take, kept_rows}
+use Rattle.sheets.proofs.Arrivals.{apart-arrivals, lawful_take}
 use Rattle.sheets.proofs.arrival.ArrivalSheet.remove.Goals as goal
 
 pub returns-in_err-at : goal.returns-in_err-at
@@ -38,7 +38,7 @@ invariant_of-self c =
     let r = c.remove.ensures in
     let left : entries c.remove.new.self ≡ without k (arrivals s) = r.entries ∙ removed_is k (arrivals s) c.in_ok-at.at (apart-arrivals s) (sym c.in_ok-at.was ∙ c.index.ensures) in
     let l = lawful_take s c.remove.new.self k left in
-    record { both = r.size ∙ s.both; apart = l.apart; lawful = l.sheet }
+    record { both = r.rows.size ∙ s.both; apart = l.apart; lawful = l.sheet }
 
 pub returns : goal.returns
 returns c =
@@ -52,6 +52,6 @@ returns c =
       value = value;
       after = ap arranged left ∙ arranged-take k (arrivals s) (apart-arrivals s);
       size = refl;
-      rows = when_some _ _ (find_in k (held_by_arrival s)) c.remove.result value (kept_rows s c.remove.new.self r.size r.spare);
+      rows = when_some _ _ (find_in k (held_by_arrival s)) c.remove.result value (kept_rows s.orders c.remove.new.self r.rows);
       order = left;
     }

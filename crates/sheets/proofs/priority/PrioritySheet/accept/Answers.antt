@@ -1,10 +1,11 @@
-use Rattle.std.proofs.Common.{◌≡◌, ◌<◌, length, sym, ap, ◌∙◌, subst, arith}
+use Rattle.std.proofs.Common.{◌≡◌, ◌<◌, length, sym, ap, subst, arith}
+use Rattle.ordered.specs.Meaning.{lent}
 use Rattle.sheets.specs.Sides.{Sides, of_side, standing, take_from}
 use Rattle.sheets.specs.Laws.{Free}
 use Rattle.sheets.specs.Held.{held_by_priority}
 use Rattle.sheets.specs.Evidence.{priority_laws}
 use Rattle.sheets.proofs.Keeps.{taken_free, taken-place}
-use Rattle.sheets.proofs.PriorityLists.{sheet_kept, lists-further}
+use Rattle.sheets.proofs.PriorityLists.{lists-kept, lists-further}
 use Rattle.sheets.proofs.priority.PrioritySheet.accept.Goals as goal
 
 pub add-requires : goal.add-requires
@@ -24,4 +25,6 @@ returns-clause-rows c =
     let s = c.args.self.now in
     let r = c.remove.ensures in
     let a = c.add.ensures in
-    sheet_kept s c.add.new.self (a.size ∙ r.size) (lists-further s c.remove.new.self c.add.new.self r.spare a.spare a.longer)
+    let t = c.add.new.self in
+    let k = lists-further s c.remove.new.self t r.spare a.spare a.longer in
+    lists-kept (lent t.buys) (lent t.offers) s k.0 k.1

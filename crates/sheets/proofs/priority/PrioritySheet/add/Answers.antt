@@ -9,7 +9,7 @@ use Rattle.sheets.specs.Laws.{Bounded}
 use Rattle.sheets.specs.Held.{held_by_priority}
 use Rattle.sheets.specs.Evidence.{priority_laws}
 use Rattle.sheets.proofs.Keeps.{still-added, added-at}
-use Rattle.sheets.proofs.PriorityLists.{place-at, longer}
+use Rattle.sheets.proofs.PriorityLists.{kept_same, place-at, longer}
 use Rattle.sheets.proofs.priority.PrioritySheet.add.Goals as goal
 
 pub insert-requires : goal.insert-requires
@@ -28,7 +28,7 @@ invariant_of-self c =
     record {
       buys_by = r.ranking ∙ s.buys_by;
       offers_by = s.offers_by;
-      buys_rows = r.size ∙ s.buys_rows;
+      buys_rows = r.rows.size ∙ s.buys_rows;
       offers_rows = s.offers_rows;
       lawful = still-added Buy s.capacity o (held_by_priority s) (held c.insert.new.self) c.in-Buy.is small c.requires.fresh (place-at Buy o s c.in-Buy.is c.requires.place) (priority_laws s) held_is;
     }
@@ -42,7 +42,7 @@ returns-in-Buy c =
     record {
       after = ap (λ (xs : List Order). with_side Buy xs (held_by_priority s)) held_is ∙ added-at Buy o (held_by_priority s) c.in-Buy.is;
       size = refl;
-      spare = (r.spare, refl);
+      spare = (r.rows, kept_same (lent s.offers));
       longer = (longer (outranks Buy) o (lent s.buys) (lent c.insert.new.self) held_is, omega arith);
     }
 
@@ -63,7 +63,7 @@ invariant_of-self-in-Offer c =
       buys_by = s.buys_by;
       offers_by = r.ranking ∙ s.offers_by;
       buys_rows = s.buys_rows;
-      offers_rows = r.size ∙ s.offers_rows;
+      offers_rows = r.rows.size ∙ s.offers_rows;
       lawful = still-added Offer s.capacity o (held_by_priority s) (held c.insert-in-Offer.new.self) c.in-Offer.is small c.requires.fresh (place-at Offer o s c.in-Offer.is c.requires.place) (priority_laws s) held_is;
     }
 
@@ -76,6 +76,6 @@ returns-in-Offer c =
     record {
       after = ap (λ (xs : List Order). with_side Offer xs (held_by_priority s)) held_is ∙ added-at Offer o (held_by_priority s) c.in-Offer.is;
       size = refl;
-      spare = (refl, r.spare);
+      spare = (kept_same (lent s.buys), r.rows);
       longer = (omega arith, longer (outranks Offer) o (lent s.offers) (lent c.insert-in-Offer.new.self) held_is);
     }

@@ -7,7 +7,7 @@ use Rattle.sheets.specs.Held.{held_by_priority}
 use Rattle.sheets.specs.Evidence.{priority_laws}
 use Rattle.sheets.proofs.Numbers.{apart-left, apart-right, first_some, first-none-some, first-left, first-right, taken-left}
 use Rattle.sheets.proofs.Keeps.{tested, take-lawful}
-use Rattle.sheets.proofs.PriorityLists.{lists-rows, lists-kept}
+use Rattle.sheets.proofs.PriorityLists.{kept_same, lists-rows, lists-kept}
 use Rattle.sheets.proofs.Spares.{when_some, when_either}
 use Rattle.sheets.proofs.priority.PrioritySheet.remove.Goals as goal
 
@@ -25,7 +25,7 @@ invariant_of-self c =
     record {
       buys_by = r.ranking ∙ s.buys_by;
       offers_by = s.offers_by;
-      buys_rows = r.size ∙ s.buys_rows;
+      buys_rows = r.rows.size ∙ s.buys_rows;
       offers_rows = s.offers_rows;
       lawful = ap (is_sheet s.capacity) after ∙ tested s.capacity (take_from k (held_by_priority s)) (take-lawful s.capacity k (held_by_priority s) (priority_laws s));
     }
@@ -41,8 +41,8 @@ returns-in-Some c =
       value = value;
       after = taken-left k (held s.buys) (held s.offers) (held c.take_from.new.list) (priority_laws s).apart (first_some (numbered k) (held s.buys) c.in-Some.order found) r.held;
       size = refl;
-      rows = when_some _ _ (find_in k (held_by_priority s)) c.in-Some.order value (lists-kept (lent c.take_from.new.list) (lent s.offers) s r.size refl r.spare refl);
-      spare = (r.spare, refl);
+      rows = when_some _ _ (find_in k (held_by_priority s)) c.in-Some.order value (lists-kept (lent c.take_from.new.list) (lent s.offers) s r.rows (kept_same (lent s.offers)));
+      spare = (r.rows, kept_same (lent s.offers));
     }
 
 pub take_from-requires-2 : goal.take_from-requires-2
@@ -58,8 +58,8 @@ invariant_of-self-2 c =
     record {
       buys_by = r.ranking ∙ s.buys_by;
       offers_by = t.ranking ∙ s.offers_by;
-      buys_rows = r.size ∙ s.buys_rows;
-      offers_rows = t.size ∙ s.offers_rows;
+      buys_rows = r.rows.size ∙ s.buys_rows;
+      offers_rows = t.rows.size ∙ s.offers_rows;
       lawful = ap (is_sheet s.capacity) after ∙ tested s.capacity (take_from k (held_by_priority s)) (take-lawful s.capacity k (held_by_priority s) (priority_laws s));
     }
 
@@ -76,7 +76,7 @@ returns c =
       after = ap₂ sides_of r.held t.held;
       size = refl;
       rows = when_either _ _ (find_in k (held_by_priority s))
-          (lists-kept (lent c.take_from.new.list) (lent c.take_from-2.new.list) s r.size t.size r.spare t.spare)
+          (lists-kept (lent c.take_from.new.list) (lent c.take_from-2.new.list) s r.rows t.rows)
           (λ n. lists-rows (lent c.take_from.new.list) (lent c.take_from-2.new.list) s (ap lent (r.absent (ap is_some c.in_default.is))) (ap lent (t.absent (ap is_some (value ∙ n)))));
-      spare = (r.spare, t.spare);
+      spare = (r.rows, t.rows);
     }
