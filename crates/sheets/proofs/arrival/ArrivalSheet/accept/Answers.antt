@@ -6,14 +6,11 @@ use Rattle.sheets.specs.Laws.{Bounded}
 use Rattle.sheets.specs.Held.{arrivals}
 use Rattle.sheets.specs.Evidence.{arrival_laws}
 use Rattle.sheets.proofs.Numbers.{any-missing}
-use Rattle.sheets.proofs.Places.{found, row_put, row-behind}
+use Rattle.sheets.proofs.Places.{row_put, row-behind}
 use Rattle.sheets.proofs.Lines.{arranged-put, place-rows}
 use Rattle.sheets.proofs.Arrivals.{apart-arrivals, lawful_put}
 use Rattle.sheets.proofs.Spares.{kept_rows}
 use Rattle.sheets.proofs.arrival.ArrivalSheet.accept.Goals as goal
-
-pub set-requires : goal.set-requires
-set-requires c = (found (numbered c.args.order.number) (arrivals c.args.self.now) c.in-Some.at (sym c.in-Some.is ∙ c.index.ensures)).within
 
 pub invariant_of-self : goal.invariant_of-self
 invariant_of-self c =

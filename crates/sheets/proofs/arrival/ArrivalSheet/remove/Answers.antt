@@ -5,7 +5,6 @@ use Rattle.sheets.specs.Sides.{numbered, without, find_in}
 use Rattle.sheets.specs.Rows.{arranged}
 use Rattle.sheets.specs.Held.{arrivals, held_by_arrival}
 use Rattle.sheets.proofs.Numbers.{removed_is, missing-is, first_found, first-missing}
-use Rattle.sheets.proofs.Places.{found}
 use Rattle.sheets.proofs.Spares.{kept_rows, when_some, when_none}
 use Rattle.sheets.proofs.Lines.{find-arranged, arranged-take}
 use Rattle.sheets.proofs.Arrivals.{apart-arrivals, lawful_take}
@@ -25,11 +24,6 @@ returns-in_err-at c =
       rows = when_none _ _ (find_in k (held_by_arrival s)) value refl;
       order = left;
     }
-
-pub remove-requires : goal.remove-requires
-remove-requires c =
-    let s = c.args.self.now in
-    (found (numbered c.args.number) (arrivals s) c.in_ok-at.at (sym c.in_ok-at.was ∙ c.index.ensures)).within
 
 pub invariant_of-self : goal.invariant_of-self
 invariant_of-self c =
