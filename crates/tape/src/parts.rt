@@ -23,6 +23,7 @@ pub fn tape_from<'a>(tape: &'a [u8], place: usize) -> Result<&'a [u8], TapeFault
 }
 
 /// The command at a place of the tape, and the place behind it. Past the tape's end there is none.
+#[tactic(auto, using(crate::proofs::Places::behind))]
 pub fn read_at<'a>(tape: &'a [u8], place: usize) -> Result<(Command<'a>, usize), TapeFault>
     ensures { ReadAt tape.entry place result }
 {
@@ -33,8 +34,8 @@ pub fn read_at<'a>(tape: &'a [u8], place: usize) -> Result<(Command<'a>, usize),
     Ok((command, tape.len() - rest.len()))
 }
 
-#[tactic(auto, using(crate::proofs::Places::part_is))]
 /// The part of the tape that the command at a place takes up.
+#[tactic(auto, using(crate::proofs::Places::part_is))]
 pub fn command_part<'a>(tape: &'a [u8], place: usize) -> Result<&'a [u8], TapeFault>
     ensures { CommandPart tape.entry place result }
 {
