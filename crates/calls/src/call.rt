@@ -8,7 +8,8 @@ pub enum Phase {
     Calling,
 }
 
-/// What is asked of a book.
+/// What is asked of a book. It is not the tape's `Command` with an account of its own: show does not
+/// stand on a tape.
 #[derive(Clone, Copy, PartialEq, Debug)]
 pub enum Call {
     /// Opens the call with the prior price (the settlement or IPO price) and the last sale, 0 for none.

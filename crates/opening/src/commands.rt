@@ -27,7 +27,7 @@ fn held(terms: Terms<&[u8]>) -> Terms<[u8; 8]>
     }
 }
 
-// The call that a command makes.
+// The call that a command makes; no `From`, since it needs an account of eight bytes.
 fn call_of(command: Command<'_>) -> Call
     requires { has_account (view command) ≡ true }
     ensures { result ≡ call_of (view command.entry) }

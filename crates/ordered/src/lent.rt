@@ -2,7 +2,8 @@
 ghost use Rattle.std.specs.Prelude.{◌≡◌, ◌+◌, ◌<◌, ◌≤◌, Bool, [], ◌∷◌, ◌++◌, length, slice_index_or, slice_set, insert, remove};
 
 /// Entries in lent rows: the first `len` rows hold them, and the rows past those are spare. Every row
-/// that is spare after a change is as it was before.
+/// that is spare after a change is as it was before. The rows are lent because the engine takes no
+/// memory of its own.
 #[derive(Drop)]
 pub struct LentList<'a, E> {
     rows: &'a mut [E],

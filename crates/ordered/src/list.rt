@@ -44,6 +44,7 @@ impl<'a, E: Copy, R: Ranking<E>> OrderedList<'a, E, R> {
         requires { length (held self.old) < size (lent self.old) }
         ensures held { held self.new ≡ insert_by (ranked (R.Ranking.ahead self.old.ranking) (R.Ranking.key_of self.old.ranking)) entry (held self.old) }
         ensures sorted { AllByRecursion (λ x. R.Ranking.key_of self.old.ranking x ≢ R.Ranking.key_of self.old.ranking entry) (held self.old) → Sorted (ranked (R.Ranking.ahead self.old.ranking) (R.Ranking.key_of self.old.ranking)) (held self.old) → Sorted (ranked (R.Ranking.ahead self.old.ranking) (R.Ranking.key_of self.old.ranking)) (held self.new) }
+        ensures more { length (held self.new) ≡ length (held self.old) + 1 }
         ensures ranking { self.new.ranking ≡ self.old.ranking }
         ensures rows { RowsKept (lent self.old) (lent self.new) }
     {
@@ -57,6 +58,7 @@ impl<'a, E: Copy, R: Ranking<E>> OrderedList<'a, E, R> {
         ensures value { (d : E) → result ≡ slice_index_or (held self.old) at d }
         ensures held { held self.new ≡ remove (held self.old) at }
         ensures sorted { (order : E → E → Bool) → Sorted order (held self.old) → Sorted order (held self.new) }
+        ensures fewer { length (held self.new) + 1 ≡ length (held self.old) }
         ensures ranking { self.new.ranking ≡ self.old.ranking }
         ensures rows { RowsKept (lent self.old) (lent self.new) }
     {

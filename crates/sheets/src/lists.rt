@@ -11,7 +11,8 @@ use ordered::OrderedList;
 /// The orders of one side by priority.
 pub(crate) type SideList<'a> = OrderedList<'a, Order, Side>;
 
-// Whether there are `capacity` orders and none of that number.
+// Whether there are `capacity` orders and none of that number; a list of one side knows how many
+// it has, where `is_side_over` has to count.
 pub(crate) fn is_over(orders: &[Order], capacity: usize, number: u32) -> bool
     ensures { result ≡ over capacity number orders.now }
 {

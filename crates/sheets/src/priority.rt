@@ -124,6 +124,7 @@ impl<'a> OrderSheet for PrioritySheet<'a> {
 
     ghost stored = { priority_stored };
 
+    // As in the arrival sheet: a sheet has five operations, and no sixth that both puts could share.
     fn put(&mut self, order: Order) -> Result<(), SideFull> {
         if self.has_no_place(&order) {
             return Err(SideFull);

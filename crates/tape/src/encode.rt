@@ -8,6 +8,7 @@ use crate::command::Command;
 use crate::fault::WriteFault;
 use market::{Kind, Side, Terms};
 
+// A match leaves no side out, where a look-up in a table could miss; so with the kinds and the way back.
 fn side_byte(side: Side) -> u8
     ensures { result ≡ side_byte side }
 {

@@ -27,6 +27,7 @@ fn add_lines(text: &mut String, tape: &[u8]) -> Result<End, AllocError>
     ensures { IfOk result (λ end. (cs : List Record) × Holds tape.now cs end × (string_bytes text.new ≡ string_bytes text.old ++ lines 1 0 cs)) }
 {
     let mut reader = Reader::new(tape);
+    // the ordinal of each line, and at the end the number of commands
     let mut count = 0;
     let fault = 'commands: loop {
         let place = reader.place();

@@ -15,6 +15,7 @@ fn check_rows(rows: &[Row]) -> Result<(), BandedFault>
     ensures { result ≡ rows_check 0 0 rows.now }
 {
     let mut low = 0;
+    // the row's place is part of the fault
     for (i, row) in rows.iter().enumerate() {
         if row.start <= low {
             return Err(BandedFault::StartNotRising(i));

@@ -24,6 +24,8 @@ impl Flat {
     }
 }
 
+// The three answers read as those of a banded rule: one impl for both would overlap with those for
+// `DailyBand` and `&R`, which is refused.
 impl TickRule for Flat {
     ghost ticks = { flat_ticks };
 
