@@ -12,7 +12,7 @@ use tape::{Reader, TapeFault, tape_from};
 use ticks::TickRule;
 
 /// How many calls were accepted, and how many refused.
-#[derive(Clone, Copy, PartialEq, Eq, Debug)]
+#[derive(Clone, Copy, PartialEq, Eq, Default, Debug)]
 pub struct Counts {
     pub accepted: usize,
     pub refused: usize,
@@ -45,10 +45,7 @@ fn run_all<R: TickRule, S: OrderSheet>(book: &mut Book<R, S>, tape: &[u8], start
     ensures { Ran R.TickRule S.OrderSheet tape.now start book.old result book.new }
 {
     let mut reader = Reader::new(tape);
-    let mut counts = Counts {
-        accepted: 0,
-        refused: 0,
-    };
+    let mut counts = Counts::default();
     let (counts, fault) = 'commands: loop {
         let place = start + reader.place();
         match advance(book, &mut reader) {

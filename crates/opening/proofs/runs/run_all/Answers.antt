@@ -1,15 +1,9 @@
-use Rattle.std.proofs.Common.{ℕ, ◌+◌, List, [], ◌∷◌, ◌++◌, length, Some, Ok, sym, refl, ap, ◌∙◌, subst, arith}
+use Rattle.std.proofs.Common.{ℕ, ◌+◌, List, [], ◌∷◌, ◌++◌, length, Some, Ok, sym, ap, ◌∙◌, subst, arith}
 use Rattle.calls.specs.Listed.{told}
 use Rattle.opening.specs.Runs.{yes_of, no_of}
 use Rattle.opening.specs.Steps.{Advanced}
-use Rattle.opening.proofs.Going.{going_none, going_more, accepted-push, refused-push, both-counted}
+use Rattle.opening.proofs.Going.{going_more, accepted-push, refused-push, both-counted}
 use Rattle.opening.proofs.runs.run_all.Goals as goal
-
-pub commands-init : goal.commands-init
-commands-init g c = (
-  ap (λ x. x.now) c.new-reader.ensures.tape,
-  ([], going_none g.R.TickRule g.S.OrderSheet c.args.tape.now c.args.book.now c.new-reader.result.place c.new-reader.ensures.place, refl, refl),
-)
 
 pub note-requires : goal.note-requires
 note-requires g c =

@@ -12,12 +12,6 @@ use Rattle.sheets.proofs.Keeps.{still-added, added-at}
 use Rattle.sheets.proofs.PriorityLists.{kept_same, place-at, longer}
 use Rattle.sheets.proofs.priority.PrioritySheet.add.Goals as goal
 
-pub insert-requires : goal.insert-requires
-insert-requires c =
-    let s = c.args.self.now in
-    let place = place-at Buy c.args.order s c.in-Buy.is c.requires.place in
-    omega (arith, place, s.buys_rows)
-
 pub invariant_of-self : goal.invariant_of-self
 invariant_of-self c =
     let s = c.args.self.now in
@@ -45,12 +39,6 @@ returns-in-Buy c =
       spare = (r.rows, kept_same (lent s.offers));
       longer = (longer (outranks Buy) o (lent s.buys) (lent c.insert.new.self) held_is, omega arith);
     }
-
-pub insert-requires-in-Offer : goal.insert-requires-in-Offer
-insert-requires-in-Offer c =
-    let s = c.args.self.now in
-    let place = place-at Offer c.args.order s c.in-Offer.is c.requires.place in
-    omega (arith, place, s.offers_rows)
 
 pub invariant_of-self-in-Offer : goal.invariant_of-self-in-Offer
 invariant_of-self-in-Offer c =
