@@ -89,9 +89,7 @@ impl<R: TickRule, S: OrderSheet> Book<R, S> {
     fn withdraw(&mut self, number: u32) -> Result<Answer, Refusal>
         ensures { Took S.OrderSheet (withdraw_due (find_in number (S.OrderSheet.meaning self.old.sheet))) (Withdraw number) self.old result self.new }
     {
-        let Some(order) = self.sheet.take(number) else {
-            return Err(Refusal::UnknownNumber);
-        };
+        let order = self.sheet.take(number).ok_or(Refusal::UnknownNumber)?;
         Ok(Answer::Withdrawn(order.quantity))
     }
 
@@ -99,9 +97,7 @@ impl<R: TickRule, S: OrderSheet> Book<R, S> {
     fn amend(&mut self, number: u32, price: u32, quantity: u32) -> Result<Answer, Refusal>
         ensures { Took S.OrderSheet (amend_due (rule_of R.TickRule self.old.rule) self.old.used (find_in number (S.OrderSheet.meaning self.old.sheet)) price quantity) (Amend number price quantity) self.old result self.new }
     {
-        let Some(order) = self.sheet.find(number) else {
-            return Err(Refusal::UnknownNumber);
-        };
+        let order = self.sheet.find(number).ok_or(Refusal::UnknownNumber)?;
         check_quantity(quantity)?;
         check_price(&self.rule, order.kind, price)?;
         let (rank, used) = if loses_place(&order, price, quantity) {

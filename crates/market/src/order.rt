@@ -18,7 +18,7 @@ pub enum Kind {
     Limit,
 }
 
-/// What an order asks for, and the eight bytes of its account, held or borrowed.
+/// What an order asks for, and its account, held or borrowed.
 #[derive(Clone, Copy, PartialEq, Eq, Debug)]
 pub struct Terms<A> {
     pub side: Side,

@@ -1,5 +1,6 @@
 // A list over lent rows.
-ghost use Rattle.std.specs.Prelude.{◌≡◌, ◌+◌, ◌<◌, ◌≤◌, Bool, [], ◌∷◌, ◌++◌, length, slice_index_or, slice_set, insert, remove};
+ghost use Rattle.std.specs.Prelude.{◌≡◌, ◌<◌, ◌≤◌, Bool, true, [], ◌∷◌, ◌++◌, length, take, slice_index_or, slice_set, find, position, insert, remove};
+ghost use Rattle.std.specs.Fn.{ComputesKey};
 
 /// Entries in lent rows: the first `len` rows hold them, and the rows past those are spare. Every row
 /// that is spare after a change is as it was before. The rows are lent because the engine takes no
@@ -15,12 +16,13 @@ impl<'a, E: Copy> LentList<'a, E> {
     ghost use Rattle.ordered.specs.Lent.{entries, size, RowsKept};
     ghost use Rattle.ordered.specs.Sorting.{Sorted};
 
-    /// An empty list, whatever the rows hold.
-    pub fn new(rows: &'a mut [E]) -> LentList<'a, E>
-        ensures entries { entries result ≡ [] }
+    /// The list of what the first `len` rows hold; of 0 an empty one, whatever lies in the rows.
+    pub fn new(rows: &'a mut [E], len: usize) -> LentList<'a, E>
+        requires { len ≤ length rows.old }
+        ensures entries { entries result ≡ take len rows.old }
         ensures rows { result.rows.now ≡ rows.old }
     {
-        LentList { rows, len: 0 }
+        LentList { rows, len }
     }
 
     /// How many entries there are.
@@ -35,6 +37,29 @@ impl<'a, E: Copy> LentList<'a, E> {
         ensures { result.now ≡ entries self.now }
     {
         &self.rows[..self.len]
+    }
+
+    /// The index of the first entry that passes the test.
+    pub fn position<F: Fn(&E) -> bool>(&self, test: F) -> Option<usize>
+        requires { F.IsAlwaysCallable test }
+        ensures { (passes : E → Bool) → ComputesKey F.FnMut passes test → result ≡ position passes (entries self.now) }
+    {
+        self.as_slice().iter().position(test)
+    }
+
+    /// The first entry that passes the test.
+    pub fn find<F: Fn(&E) -> bool>(&self, test: F) -> Option<E>
+        requires { F.IsAlwaysCallable test }
+        ensures { (passes : E → Bool) → ComputesKey F.FnMut passes test → result ≡ find passes (entries self.now) }
+    {
+        self.as_slice().iter().copied().find(test)
+    }
+
+    /// The first entry.
+    pub fn first(&self) -> Option<E>
+        ensures { result ≡ find (λ _. true) (entries self.now) }
+    {
+        self.as_slice().first().copied()
     }
 
     /// Writes an entry over another.

@@ -20,16 +20,13 @@ impl<'a, E: Copy, R: Ranking<E>> OrderedList<'a, E, R> {
     ghost use Rattle.ordered.specs.Meaning.{held, lent};
     ghost use Rattle.ordered.specs.Lent.{size, RowsKept};
 
-    /// An empty list, whatever the rows hold.
-    pub fn new(rows: &'a mut [E], ranking: R) -> OrderedList<'a, E, R>
-        ensures held { held result ≡ [] }
-        ensures rows { (lent result).rows.now ≡ rows.old }
+    /// A list whose entries are in the order of the ranking, as those of an empty one are.
+    pub fn new(list: LentList<'a, E>, ranking: R) -> OrderedList<'a, E, R>
+        requires { in_order (ranked (R.Ranking.ahead ranking) (R.Ranking.key_of ranking)) (entries list) ≡ true }
+        ensures list { lent result ≡ list.entry }
         ensures ranking { result.ranking ≡ ranking }
     {
-        OrderedList {
-            list: LentList::new(rows),
-            ranking,
-        }
+        OrderedList { list, ranking }
     }
 
     /// The entries, in order.
@@ -70,7 +67,7 @@ impl<'a, E: Copy, R: Ranking<E>> OrderedList<'a, E, R> {
         requires { F.IsAlwaysCallable test }
         ensures { (passes : E → Bool) → ComputesKey F.FnMut passes test → result ≡ position passes (held self.now) }
     {
-        self.as_slice().iter().position(test)
+        self.list.position(test)
     }
 
     /// The first entry that passes the test.
@@ -78,14 +75,14 @@ impl<'a, E: Copy, R: Ranking<E>> OrderedList<'a, E, R> {
         requires { F.IsAlwaysCallable test }
         ensures { (passes : E → Bool) → ComputesKey F.FnMut passes test → result ≡ find passes (held self.now) }
     {
-        self.as_slice().iter().copied().find(test)
+        self.list.find(test)
     }
 
     /// The first entry.
     pub fn first(&self) -> Option<E>
         ensures { result ≡ find (λ _. true) (held self.now) }
     {
-        self.as_slice().first().copied()
+        self.list.first()
     }
 
     /// The first entry that the key comes before: by halving.

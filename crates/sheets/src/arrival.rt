@@ -36,7 +36,7 @@ impl<'a> ArrivalSheet<'a> {
     {
         let capacity = (rows.len() / 2).min(MAX_SIDE_ORDERS);
         ArrivalSheet {
-            orders: LentList::new(&mut rows[..capacity + capacity]),
+            orders: LentList::new(&mut rows[..capacity + capacity], 0),
             capacity,
         }
     }
@@ -45,10 +45,7 @@ impl<'a> ArrivalSheet<'a> {
     fn index(&self, number: u32) -> Option<usize>
         ensures { result ≡ position (numbered number) (arrivals self.now) }
     {
-        self.orders
-            .as_slice()
-            .iter()
-            .position(|order| order.number == number)
+        self.orders.position(|order| order.number == number)
     }
 
     // Whether the order has no place on its side.
@@ -134,11 +131,7 @@ impl<'a> OrderSheet for ArrivalSheet<'a> {
     }
 
     fn find(&self, number: u32) -> Option<Order> {
-        self.orders
-            .as_slice()
-            .iter()
-            .copied()
-            .find(|order| order.number == number)
+        self.orders.find(|order| order.number == number)
     }
 
     fn next(&self, side: Side, behind: Option<Priority>) -> Option<Order> {

@@ -10,7 +10,7 @@ use crate::lists::{SideList, is_over, next_in, take_from};
 use crate::sheet::{OrderSheet, SideFull};
 use market::limits::MAX_SIDE_ORDERS;
 use market::{Order, Priority, Side};
-use ordered::OrderedList;
+use ordered::{LentList, OrderedList};
 
 /// The buys and the offers, each in a list by priority over `capacity` rows.
 #[derive(Drop)]
@@ -41,8 +41,8 @@ impl<'a> PrioritySheet<'a> {
     {
         let capacity = buys.len().min(offers.len()).min(MAX_SIDE_ORDERS);
         PrioritySheet {
-            buys: OrderedList::new(&mut buys[..capacity], Side::Buy),
-            offers: OrderedList::new(&mut offers[..capacity], Side::Offer),
+            buys: OrderedList::new(LentList::new(&mut buys[..capacity], 0), Side::Buy),
+            offers: OrderedList::new(LentList::new(&mut offers[..capacity], 0), Side::Offer),
             capacity,
         }
     }

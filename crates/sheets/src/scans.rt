@@ -11,10 +11,7 @@ use market::{Order, Priority, Side};
 fn is_behind(side: Side, behind: Option<Priority>, order: &Order) -> bool
     ensures { result ≡ is_behind side behind order.now }
 {
-    match behind {
-        None => true,
-        Some(priority) => side.leads(&priority, &order.priority()),
-    }
+    behind.is_none_or(|priority| side.leads(&priority, &order.priority()))
 }
 
 // The first order of a side behind a priority so far, with one more seen.
