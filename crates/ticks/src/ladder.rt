@@ -6,35 +6,48 @@ ghost use Rattle.ticks.specs.Rows.{start_of, row_at, ladder, load_check};
 
 use crate::in_row::InRow;
 use crate::place::Place;
-use crate::row::{FIRST_ROW, Row};
+use crate::row::Row;
 
-// Where the first of the rows starts, and the end where there is none.
-pub(crate) fn start_of(rows: &[Row], end: u32) -> u32
-    ensures { result ≡ start_of rows.now end }
-{
-    rows.first().map_or(end, |row| row.start)
+// Rows in order, and where the last of them ends.
+#[derive(Clone, Copy)]
+pub(crate) struct Table<'a> {
+    pub(crate) rows: &'a [Row],
+    pub(crate) end: u32,
 }
 
-// The last of the rows, from the first on, that start at most at `p`.
-fn row_at(rows: &[Row], p: u32) -> Option<Row>
-    ensures { result ≡ row_at rows.now p }
-{
-    rows.iter().take_while(|row| row.start <= p).last().copied()
-}
+impl Table<'_> {
+    // Where the first of the rows starts, and the end where there is none.
+    pub(crate) fn start(&self) -> u32
+        ensures { result ≡ start_of self.now.rows.now self.now.end }
+    {
+        self.rows.first().map_or(self.end, |row| row.start)
+    }
 
-// Where `p` lies among the ticks of rows that can be loaded.
-pub(crate) fn place(rows: &[Row], end: u32, p: u32) -> Place
-    requires { is_ok (load_check rows.now end) ≡ true }
-    ensures { Placed (ladder rows.now end) (start_of rows.now end) end p result }
-{
-    match row_at(rows, p) {
-        None => Place::Before {
-            first: start_of(rows, end),
-        },
-        Some(row) if p < end => Place::Within(InRow { row, price: p }),
-        Some(_) => Place::Past {
-            last: end,
-            price: p,
-        },
+    // The last of the rows, from the first on, that start at most at `p`.
+    fn row_at(&self, p: u32) -> Option<Row>
+        ensures { result ≡ row_at self.now.rows.now p }
+    {
+        self.rows
+            .iter()
+            .take_while(|row| row.start <= p)
+            .last()
+            .copied()
+    }
+
+    // Where `p` lies among the ticks of a table that can be loaded.
+    pub(crate) fn place(&self, p: u32) -> Place
+        requires { is_ok (load_check self.now.rows.now self.now.end) ≡ true }
+        ensures { Placed (ladder self.now.rows.now self.now.end) (start_of self.now.rows.now self.now.end) self.now.end p result }
+    {
+        match self.row_at(p) {
+            None => Place::Before {
+                first: self.start(),
+            },
+            Some(row) if p < self.end => Place::Within(InRow { row, price: p }),
+            Some(_) => Place::Past {
+                last: self.end,
+                price: p,
+            },
+        }
     }
 }

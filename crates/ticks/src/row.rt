@@ -1,4 +1,4 @@
-//! A start and the whole steps from it.
+//! A row of a table.
 
 /// One row of a banded tick table: ticks go from `start` in steps of `step`.
 #[derive(Clone, Copy, PartialEq, Eq, Debug)]

@@ -5,7 +5,7 @@ ghost use Rattle.ticks.specs.Evidence.{lawful_banded};
 ghost use Rattle.ticks.specs.Places.{Placed};
 
 use crate::banded::table::Banded;
-use crate::ladder::place;
+use crate::ladder::Table;
 use crate::place::Place;
 use crate::rule::{Cause, TickRule};
 
@@ -14,7 +14,11 @@ impl Banded {
     fn place(&self, p: u32) -> Place
         ensures { Placed (banded_ticks self.now) (banded_floor self.now) (banded_ceiling self.now) p result }
     {
-        place(&self.rows[..self.used], self.end, p)
+        let table = Table {
+            rows: &self.rows[..self.used],
+            end: self.end,
+        };
+        table.place(p)
     }
 }
 

@@ -5,7 +5,7 @@ ghost use Rattle.ticks.specs.Rows.{ladder, rows_check, distances_check, load_che
 
 use crate::banded::fault::BandedFault;
 use crate::banded::table::MAX_ROWS;
-use crate::ladder::start_of;
+use crate::ladder::Table;
 use crate::row::Row;
 use crate::rule::MAX_TICKS;
 use market::limits::MAX_PRICE;
@@ -28,43 +28,49 @@ fn check_rows(rows: &[Row]) -> Result<(), BandedFault>
     Ok(())
 }
 
-// The steps of the ladder from its first tick to its last, where the distance from each start to
-// the next, or from the last to the end, is a multiple of the step.
-fn count_steps(rows: &[Row], end: u32) -> Result<u32, BandedFault>
-    requires { Ordered rows.now end }
-    ensures { MatchResult result (λ n. (distances_check 0 rows.now end ≡ Ok tt) × (n + 1 ≡ length (ladder rows.now end))) (λ fault. distances_check 0 rows.now end ≡ Err fault) }
-{
-    let mut n = 0;
-    for (i, row) in rows.iter().enumerate() {
-        let distance = start_of(&rows[i + 1..], end) - row.start;
-        if distance % row.step > 0 {
-            return Err(BandedFault::UnevenDistance(i));
+impl Table<'_> {
+    // The steps of the ladder from its first tick to its last, where the distance from each start to
+    // the next, or from the last to the end, is a multiple of the step.
+    fn count_steps(&self) -> Result<u32, BandedFault>
+        requires { Ordered self.now.rows.now self.now.end }
+        ensures { MatchResult result (λ n. (distances_check 0 self.now.rows.now self.now.end ≡ Ok tt) × (n + 1 ≡ length (ladder self.now.rows.now self.now.end))) (λ fault. distances_check 0 self.now.rows.now self.now.end ≡ Err fault) }
+    {
+        let Table { rows, end } = *self;
+        let mut n = 0;
+        // the row's place is part of the fault
+        for (i, row) in rows.iter().enumerate() {
+            let rest = Table {
+                rows: &rows[i + 1..],
+                end,
+            };
+            let distance = rest.start() - row.start;
+            if distance % row.step > 0 {
+                return Err(BandedFault::UnevenDistance(i));
+            }
+            n += distance / row.step;
         }
-        n += distance / row.step;
+        Ok(n)
     }
-    Ok(n)
-}
 
-// The first condition that the rows and the end break, if any is broken.
-pub(crate) fn check(rows: &[Row], end: u32) -> Result<(), BandedFault>
-    ensures first { result ≡ load_check rows.now end }
-    ensures few { OnOk result (length rows.now ≤ 16) }
-{
-    let Some(last) = rows.last() else {
-        return Err(BandedFault::NoRows);
-    };
-    if rows.len() > MAX_ROWS {
-        return Err(BandedFault::TooManyRows);
+    // The first condition that the rows and the end break, if any is broken.
+    pub(crate) fn check(&self) -> Result<(), BandedFault>
+        ensures first { result ≡ load_check self.now.rows.now self.now.end }
+        ensures few { OnOk result (length self.now.rows.now ≤ 16) }
+    {
+        let last = self.rows.last().ok_or(BandedFault::NoRows)?;
+        if self.rows.len() > MAX_ROWS {
+            return Err(BandedFault::TooManyRows);
+        }
+        check_rows(self.rows)?;
+        if self.end < last.start {
+            return Err(BandedFault::EndBelowStart);
+        }
+        if self.end > MAX_PRICE {
+            return Err(BandedFault::EndTooHigh);
+        }
+        if self.count_steps()? >= MAX_TICKS {
+            return Err(BandedFault::TooManyTicks);
+        }
+        Ok(())
     }
-    check_rows(rows)?;
-    if end < last.start {
-        return Err(BandedFault::EndBelowStart);
-    }
-    if end > MAX_PRICE {
-        return Err(BandedFault::EndTooHigh);
-    }
-    if count_steps(rows, end)? >= MAX_TICKS {
-        return Err(BandedFault::TooManyTicks);
-    }
-    Ok(())
 }

@@ -4,9 +4,9 @@ ghost use Rattle.std.specs.Prelude.{◌≡◌, ◌≤◌, [], ◌∷◌, length,
 ghost use Rattle.ticks.specs.Rows.{ladder, start_of, load_check};
 ghost use Rattle.ticks.specs.BandedRules.{banded_ticks, banded_floor, banded_ceiling};
 
-use crate::banded::check::check;
 use crate::banded::fault::BandedFault;
 use crate::banded::table::{Banded, MAX_ROWS};
+use crate::ladder::Table;
 use crate::row::{FIRST_ROW, Row};
 
 // Sixteen rows that begin with `rows`.
@@ -39,7 +39,7 @@ impl Banded {
         ensures check { result ≡ load_check rows.now end }
         ensures meaning { MatchResult result (λ _. (banded_ticks self.new ≡ ladder rows.now end) × (banded_floor self.new ≡ start_of rows.now end) × (banded_ceiling self.new ≡ end)) (λ _. self.new ≡ self.old) }
     {
-        check(rows, end)?;
+        Table { rows, end }.check()?;
         *self = Banded {
             rows: held(rows),
             used: rows.len(),

@@ -5,7 +5,7 @@ ghost use Rattle.ticks.specs.FlatRules.{flat_ticks, flat_floor, flat_ceiling};
 ghost use Rattle.ticks.specs.Places.{Placed};
 
 use crate::flat::Flat;
-use crate::ladder::place;
+use crate::ladder::Table;
 use crate::place::Place;
 use crate::row::Row;
 use crate::rule::{Cause, TickRule};
@@ -20,7 +20,11 @@ impl Flat {
             start: self.first,
             step: self.step,
         };
-        place(&[row], last, p)
+        let table = Table {
+            rows: &[row],
+            end: last,
+        };
+        table.place(p)
     }
 }
 

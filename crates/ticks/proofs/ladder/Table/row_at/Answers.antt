@@ -4,7 +4,7 @@ use Rattle.std.specs.List.{last_or}
 use Rattle.std.specs.Option.{option_map}
 use Rattle.std.proofs.lemmas.Iterator.{YieldsList, YieldsList-from_slice, items_from_drains}
 use Rattle.std.proofs.lemmas.Iterator.Search.{YieldsList-from_take_while}
-use Rattle.ticks.proofs.ladder.row_at.Goals as goal
+use Rattle.ticks.proofs.ladder.Table.row_at.Goals as goal
 
 last-map : {A B : Type 0} (f : A → B) (o : Option A) (xs : List A) → option_map f (last_or o xs) ≡ last_or (option_map f o) (map f xs)
 last-map f o [] = refl
@@ -19,4 +19,4 @@ pub returns : goal.returns
 returns c =
     c.copied.ensures
     ∙ last_of c.take_while.result c.last.result c.last.ensures.ran
-    (YieldsList-from_take_while _ (λ r. leb r.start c.args.p) (YieldsList-from_slice c.args.rows.now cc) c.take_while.ensures.closure c.take_while.ensures.done (λ x b q k. search (rules, tests)))
+    (YieldsList-from_take_while _ (λ r. leb r.start c.args.p) (YieldsList-from_slice c.args.self.now.rows.now cc) c.take_while.ensures.closure c.take_while.ensures.done (λ x b q k. search (rules, tests)))

@@ -1,6 +1,6 @@
 use Rattle.std.proofs.Common.{◌≡◌, ◌+◌, ◌≤◌, length, drop}
 use Rattle.ticks.specs.Rows.{start_of, ladder, distances_check, Ordered}
-use Rattle.ticks.proofs.banded.check.count_steps.Given as goal
+use Rattle.ticks.proofs.ladder.Table.count_steps.Given as goal
 
 abbrev pub invariant-loop-i : goal.invariant-loop-i
 invariant-loop-i l = record {
