@@ -93,7 +93,8 @@ impl<R: TickRule, S: OrderSheet> Book<R, S> {
         Ok(Answer::Withdrawn(order.quantity))
     }
 
-    // Sets an order's price and standing quantity; a new price or a raise takes the next rank.
+    // Sets an order's price and standing quantity; a new price or a raise takes the next rank. The three
+    // are the operands of one call, and nothing is asked of them together.
     fn amend(&mut self, number: u32, price: u32, quantity: u32) -> Result<Answer, Refusal>
         ensures { Took S.OrderSheet (amend_due (rule_of R.TickRule self.old.rule) self.old.used (find_in number (S.OrderSheet.meaning self.old.sheet)) price quantity) (Amend number price quantity) self.old result self.new }
     {

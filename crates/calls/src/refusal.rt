@@ -82,7 +82,7 @@ impl From<SideFull> for Refusal {
 }
 
 impl Refusal {
-    /// The number of the refusal.
+    /// The number that a listing prints for it.
     pub fn number(&self) -> u8
         ensures { result ≡ (listed self.now).number }
     {
@@ -98,7 +98,7 @@ impl Refusal {
         }
     }
 
-    /// The letter of the cause, where a price is refused: F, C, N or M.
+    /// The letter of the cause that a listing may print, where a price is refused: F, C, N or M.
     pub fn letter(&self) -> Option<char>
         ensures { result ≡ (listed self.now).letter }
     {

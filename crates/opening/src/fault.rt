@@ -44,7 +44,7 @@ impl From<At<Refusal>> for StepFault {
 }
 
 impl StepFault {
-    /// The number of the fault or of the refusal.
+    /// The number that a listing prints for it.
     pub fn number(&self) -> u8
         ensures { result ≡ step_number self.now }
     {

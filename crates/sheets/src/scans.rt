@@ -7,7 +7,8 @@ ghost use Rattle.sheets.specs.Scans.{first_with};
 
 use market::{Order, Priority, Side};
 
-// Whether an order comes behind a priority of its side, where one is given.
+// Whether an order comes behind a priority of its side, where one is given; side and priority are the
+// operands of `next`.
 fn is_behind(side: Side, behind: Option<Priority>, order: &Order) -> bool
     ensures { result ≡ is_behind side behind order.now }
 {

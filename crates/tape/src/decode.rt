@@ -27,6 +27,7 @@ fn kind_of(byte: u8) -> Result<Kind, TapeFault>
     }
 }
 
+// The number in four bytes that a pattern named.
 fn word(a: &u8, b: &u8, c: &u8, d: &u8) -> u32
     ensures { result ≡ a.now * 16777216 + b.now * 65536 + c.now * 256 + d.now }
 {

@@ -16,6 +16,7 @@ pub enum TapeFault {
 }
 
 impl TapeFault {
+    /// The number that a listing prints for it.
     pub fn number(&self) -> u8
         ensures { result ≡ tape_number self.now }
     {
@@ -38,6 +39,7 @@ pub enum WriteFault {
 }
 
 impl WriteFault {
+    /// The number that a listing prints for it.
     pub fn number(&self) -> u8
         ensures { result ≡ write_number self.now }
     {

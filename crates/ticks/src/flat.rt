@@ -32,7 +32,7 @@ pub enum FlatFault {
 }
 
 impl FlatFault {
-    /// The number of the refusal.
+    /// The number that a listing prints for it, whatever the condition.
     pub fn number(&self) -> u8
         ensures { result ≡ flat_number self.now }
     {

@@ -16,7 +16,7 @@ pub enum Cause {
 }
 
 impl Cause {
-    /// The letter that names the cause: F, C or N.
+    /// The letter that a listing prints for it: F, C or N.
     pub fn letter(&self) -> char
         ensures { result ≡ letter_of self.now }
     {

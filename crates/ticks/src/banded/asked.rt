@@ -22,6 +22,7 @@ impl Banded {
     }
 }
 
+// As in the flat rule; see there why not once for both.
 impl TickRule for Banded {
     ghost ticks = { banded_ticks };
 

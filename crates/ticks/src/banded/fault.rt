@@ -26,7 +26,7 @@ pub enum BandedFault {
 }
 
 impl BandedFault {
-    /// The number of the refusal.
+    /// The number that a listing prints for it, whatever the condition.
     pub fn number(&self) -> u8
         ensures { result ≡ banded_number self.now }
     {
