@@ -38,6 +38,8 @@ impl<'a, E: Copy, R: Ranking<E>> OrderedList<'a, E, R> {
 
     /// Puts an entry in its place, behind those of its own key.
     pub fn insert(&mut self, entry: E)
+    where
+        R::Key: Drop,
         requires { length (held self.old) < size (lent self.old) }
         ensures held { held self.new ≡ insert_by (ranked (R.Ranking.ahead self.old.ranking) (R.Ranking.key_of self.old.ranking)) entry (held self.old) }
         ensures sorted { AllByRecursion (λ x. R.Ranking.key_of self.old.ranking x ≢ R.Ranking.key_of self.old.ranking entry) (held self.old) → Sorted (ranked (R.Ranking.ahead self.old.ranking) (R.Ranking.key_of self.old.ranking)) (held self.old) → Sorted (ranked (R.Ranking.ahead self.old.ranking) (R.Ranking.key_of self.old.ranking)) (held self.new) }
@@ -87,6 +89,8 @@ impl<'a, E: Copy, R: Ranking<E>> OrderedList<'a, E, R> {
 
     /// The first entry that the key comes before: by halving.
     pub fn first_behind(&self, key: &R::Key) -> Option<E>
+    where
+        R::Key: Drop,
         ensures { result ≡ find (λ x. R.Ranking.ahead self.now.ranking key.now (R.Ranking.key_of self.now.ranking x)) (held self.now) }
     {
         self.as_slice().get(self.place(key)).copied()
@@ -94,6 +98,8 @@ impl<'a, E: Copy, R: Ranking<E>> OrderedList<'a, E, R> {
 
     // The index of the first entry that the key comes before, or the length.
     fn place(&self, key: &R::Key) -> usize
+    where
+        R::Key: Drop,
         ensures within { result ≤ length (held self.now) }
         ensures past { (k : ℕ) (d : E) → k < result → R.Ranking.ahead self.now.ranking key.now (R.Ranking.key_of self.now.ranking (slice_index_or (held self.now) k d)) ≡ false }
         ensures here { (d : E) → result < length (held self.now) → R.Ranking.ahead self.now.ranking key.now (R.Ranking.key_of self.now.ranking (slice_index_or (held self.now) result d)) ≡ true }

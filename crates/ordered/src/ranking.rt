@@ -3,7 +3,7 @@ ghost use Rattle.std.specs.Prelude.{◌≡◌, Bool, true, false};
 
 // A way to rank entries of type E by their keys.
 pub trait Ranking<E> {
-    type Key: Drop;
+    type Key;
 
     // the key of an entry
     ghost key_of: { Self → E → Self.Key };
