@@ -47,7 +47,7 @@ impl<R: TickRule, S: OrderSheet> Book<R, S> {
         }
     }
 
-    // From shut to calling.
+    // From shut to calling; the two prices are the operands of one call.
     fn start(&mut self, prior: u32, last: u32) -> Result<Answer, Refusal>
         ensures { Took S.OrderSheet (start_due (rule_of R.TickRule self.old.rule) prior last) (Start prior last) self.old result self.new }
     {

@@ -29,7 +29,8 @@ pub struct Terms<A> {
 }
 
 /// An order that stands: `price` is 0 at a market order, `quantity` is what is left of it, and
-/// `rank` says when it took its place in the queue.
+/// `rank` says when it took its place in the queue. It is flat, since price and quantity change by
+/// themselves.
 #[derive(Clone, Copy, PartialEq, Eq, Debug)]
 pub struct Order {
     pub number: u32,

@@ -1,5 +1,5 @@
 // Orders of one side in an ordered list.
-ghost use Rattle.std.specs.Prelude.{◌≡◌, ◌≤◌, false, length, is_some, find};
+ghost use Rattle.std.specs.Prelude.{◌≡◌, ◌≤◌, false, length, is_some, find, position};
 ghost use Rattle.ordered.specs.Lent.{RowsKept};
 ghost use Rattle.ordered.specs.Meaning.{held, lent};
 ghost use Rattle.sheets.specs.Sides.{numbered, is_behind, over, without};
@@ -29,6 +29,13 @@ pub(crate) fn next_in(list: &SideList, behind: Option<Priority>) -> Option<Order
     }
 }
 
+// The index of the order of that number.
+fn index(list: &SideList, number: u32) -> Option<usize>
+    ensures { result ≡ position (numbered number) (held list.now) }
+{
+    list.position(|order| order.number == number)
+}
+
 // Takes the order of that number out of a list.
 pub(crate) fn take_from(list: &mut SideList, number: u32) -> Option<Order>
     requires { Apart (held list.old) }
@@ -38,6 +45,6 @@ pub(crate) fn take_from(list: &mut SideList, number: u32) -> Option<Order>
     ensures rows { RowsKept (lent list.old) (lent list.new) }
     ensures absent { is_some result ≡ false → list.new ≡ list.old }
 {
-    let at = list.position(|order| order.number == number)?;
+    let at = index(list, number)?;
     Some(list.remove(at))
 }

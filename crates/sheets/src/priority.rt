@@ -12,7 +12,8 @@ use market::limits::MAX_SIDE_ORDERS;
 use market::{Order, Priority, Side};
 use ordered::{LentList, OrderedList};
 
-/// The buys and the offers, each in a list by priority over `capacity` rows.
+/// The buys and the offers, each in a list by priority over `capacity` rows. The capacity is the N of
+/// the rules, and is kept beside the rows as that.
 #[derive(Drop)]
 pub struct PrioritySheet<'a> {
     buys: SideList<'a>,
@@ -58,7 +59,8 @@ impl<'a> PrioritySheet<'a> {
         }
     }
 
-    // Takes the order of that number out, on whichever side it stands.
+    // Takes the order of that number out, on whichever side it stands. No `or_else`: what its closure
+    // answers isn't known to the contract.
     fn remove(&mut self, number: u32) -> Option<Order>
         ensures value { result ≡ find_in number (held_by_priority self.old) }
         ensures after { held_by_priority self.new ≡ take_from number (held_by_priority self.old) }
@@ -137,6 +139,7 @@ impl<'a> OrderSheet for PrioritySheet<'a> {
         self.remove(number)
     }
 
+    // As in `remove`, no `or_else`.
     fn find(&self, number: u32) -> Option<Order> {
         let sought = |order: &Order| order.number == number;
         if let Some(order) = self.buys.find(sought) {

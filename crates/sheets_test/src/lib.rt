@@ -161,34 +161,34 @@ mod tests {
     }
 
     // A side, a priority, and the number of the next order behind it among those of `ranks`: before,
-    // at, between and past those that stand; 0 for none.
-    const STEPS: [(Side, Kind, u32, u32, u32, u32); 26] = [
-        (Side::Buy, Kind::Market, 0, 1, 99, 1),
-        (Side::Buy, Kind::Market, 0, 2, 0, 1),
-        (Side::Buy, Kind::Market, 0, 2, 1, 8),
-        (Side::Buy, Kind::Market, 0, 3, 0, 8),
-        (Side::Buy, Kind::Market, 0, 7, 8, 2),
-        (Side::Buy, Kind::Limit, 103, 99, 99, 2),
-        (Side::Buy, Kind::Limit, 102, 12, 1, 2),
-        (Side::Buy, Kind::Limit, 102, 12, 2, 3),
-        (Side::Buy, Kind::Limit, 101, 0, 0, 3),
-        (Side::Buy, Kind::Limit, 100, 3, 99, 3),
-        (Side::Buy, Kind::Limit, 100, 4, 3, 4),
-        (Side::Buy, Kind::Limit, 100, 4, 4, 5),
-        (Side::Buy, Kind::Limit, 100, 9, 4, 5),
-        (Side::Buy, Kind::Limit, 100, 9, 5, 0),
-        (Side::Buy, Kind::Limit, 99, 0, 0, 0),
-        (Side::Offer, Kind::Market, 0, 2, 10, 11),
-        (Side::Offer, Kind::Market, 0, 2, 11, 18),
-        (Side::Offer, Kind::Market, 0, 8, 0, 13),
-        (Side::Offer, Kind::Limit, 99, 99, 99, 13),
-        (Side::Offer, Kind::Limit, 100, 4, 13, 14),
-        (Side::Offer, Kind::Limit, 100, 4, 14, 15),
-        (Side::Offer, Kind::Limit, 100, 9, 15, 12),
-        (Side::Offer, Kind::Limit, 101, 0, 0, 12),
-        (Side::Offer, Kind::Limit, 102, 12, 11, 12),
-        (Side::Offer, Kind::Limit, 102, 12, 12, 0),
-        (Side::Offer, Kind::Limit, 103, 0, 0, 0),
+    // at, between and past those that stand.
+    const STEPS: [(Side, Kind, u32, u32, u32, Option<u32>); 26] = [
+        (Side::Buy, Kind::Market, 0, 1, 99, Some(1)),
+        (Side::Buy, Kind::Market, 0, 2, 0, Some(1)),
+        (Side::Buy, Kind::Market, 0, 2, 1, Some(8)),
+        (Side::Buy, Kind::Market, 0, 3, 0, Some(8)),
+        (Side::Buy, Kind::Market, 0, 7, 8, Some(2)),
+        (Side::Buy, Kind::Limit, 103, 99, 99, Some(2)),
+        (Side::Buy, Kind::Limit, 102, 12, 1, Some(2)),
+        (Side::Buy, Kind::Limit, 102, 12, 2, Some(3)),
+        (Side::Buy, Kind::Limit, 101, 0, 0, Some(3)),
+        (Side::Buy, Kind::Limit, 100, 3, 99, Some(3)),
+        (Side::Buy, Kind::Limit, 100, 4, 3, Some(4)),
+        (Side::Buy, Kind::Limit, 100, 4, 4, Some(5)),
+        (Side::Buy, Kind::Limit, 100, 9, 4, Some(5)),
+        (Side::Buy, Kind::Limit, 100, 9, 5, None),
+        (Side::Buy, Kind::Limit, 99, 0, 0, None),
+        (Side::Offer, Kind::Market, 0, 2, 10, Some(11)),
+        (Side::Offer, Kind::Market, 0, 2, 11, Some(18)),
+        (Side::Offer, Kind::Market, 0, 8, 0, Some(13)),
+        (Side::Offer, Kind::Limit, 99, 99, 99, Some(13)),
+        (Side::Offer, Kind::Limit, 100, 4, 13, Some(14)),
+        (Side::Offer, Kind::Limit, 100, 4, 14, Some(15)),
+        (Side::Offer, Kind::Limit, 100, 9, 15, Some(12)),
+        (Side::Offer, Kind::Limit, 101, 0, 0, Some(12)),
+        (Side::Offer, Kind::Limit, 102, 12, 11, Some(12)),
+        (Side::Offer, Kind::Limit, 102, 12, 12, None),
+        (Side::Offer, Kind::Limit, 103, 0, 0, None),
     ];
 
     fn steps_between<S: OrderSheet>(rt: &impl Abort, sheet: &S) {
@@ -199,7 +199,7 @@ mod tests {
                 rank,
                 number,
             };
-            let found = sheet.next(side, Some(at)).map_or(0, |order| order.number);
+            let found = sheet.next(side, Some(at)).map(|order| order.number);
             assert_eq!(rt; found, expected);
         }
     }

@@ -1,4 +1,5 @@
-// Parts of a tape, handed out without a copy.
+// Parts of a tape, handed out without a copy. Each takes the caller's tape and a place on it, the two
+// operands of one question.
 ghost use Rattle.std.specs.Prelude.{◌≡◌, ◌≤◌, ◌&&◌, length, is_ok, IfOk, IfErr, nat_le};
 ghost use Rattle.tape.specs.declared.fault.TapeFault.TheVariants.{OutOfBounds};
 ghost use Rattle.tape.specs.Views.{RestOf, ReadAt, CommandPart};

@@ -4,6 +4,7 @@ pub mod Appends
 pub mod AtIndex
 pub mod FlatHolds
 pub mod OneRow
+pub mod Passes
 pub mod Progress
 pub mod RowsHold
 pub mod Spans
