@@ -1,3 +1,4 @@
 pub mod Listed
 pub mod State
 pub mod Machine
+pub mod Reached
