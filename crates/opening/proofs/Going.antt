@@ -17,6 +17,7 @@ use Rattle.book.specs.Books.{rule_of, setting_of, state_of}
 use Rattle.book.proofs.Clears.{as_many_left}
 use Rattle.opening.specs.Calls.{call_of}
 use Rattle.opening.specs.Steps.{Advanced}
+use Rattle.opening.specs.declared.runs.Counts.{Counts}
 use Rattle.opening.specs.Runs.{yes_of, no_of, accepted, refused}
 
 -- ---- one call more
@@ -36,12 +37,12 @@ told_is (Err x) d a e m = ap (λ (o : Option Listed). unless o a) e
 
 -- ---- counts
 
-pub accepted-push : (rs : List (Result Answer Listed)) (said : Result Answer Refusal) → accepted (rs ++ told said ∷ []) ≡ accepted rs + yes_of said
+accepted-push : (rs : List (Result Answer Listed)) (said : Result Answer Refusal) → accepted (rs ++ told said ∷ []) ≡ accepted rs + yes_of said
 accepted-push [] (Ok a) = refl
 accepted-push [] (Err e) = refl
 accepted-push (x ∷ rs) said = let h = accepted-push rs said in omega arith
 
-pub refused-push : (rs : List (Result Answer Listed)) (said : Result Answer Refusal) → refused (rs ++ told said ∷ []) ≡ refused rs + no_of said
+refused-push : (rs : List (Result Answer Listed)) (said : Result Answer Refusal) → refused (rs ++ told said ∷ []) ≡ refused rs + no_of said
 refused-push [] (Ok a) = refl
 refused-push [] (Err e) = refl
 refused-push (x ∷ rs) said = let h = refused-push rs said in omega arith
@@ -52,10 +53,15 @@ both-counted [] = refl
 both-counted (Ok a ∷ rs) = let h = both-counted rs in omega arith
 both-counted (Err e ∷ rs) = let h = both-counted rs in omega arith
 
+-- one call is accepted or refused
+pub one-counted : (said : Result Answer Refusal) → yes_of said + no_of said ≡ 1
+one-counted (Ok a) = refl
+one-counted (Err e) = refl
+
 -- ---- a run on its way
 
--- book b has been run over the tape up to place i, with the replies rs, and is b' now
-pub record Going {R S : Type 0} (rules : TickRule.Ghosts R) (sheets : OrderSheet.Ghosts S) (tape : List ℕ) (b : Book R S) (rs : List (Result Answer Listed)) (i : ℕ) (b' : Book R S) : Type 0 where
+-- book b has been run over the tape up to place i, with the replies rs and their counts n, and is b' now
+pub record Going {R S : Type 0} (rules : TickRule.Ghosts R) (sheets : OrderSheet.Ghosts S) (tape : List ℕ) (b : Book R S) (rs : List (Result Answer Listed)) (i : ℕ) (b' : Book R S) (n : Counts) : Type 0 where
   pub records : List Record
   pub stand : Stand tape 0 records i
   pub replied : rs ≡ replies (setting_of rules sheets b) (state_of sheets b) (map call_of records)
@@ -64,14 +70,20 @@ pub record Going {R S : Type 0} (rules : TickRule.Ghosts R) (sheets : OrderSheet
   pub room : sheets.room b'.sheet ≡ sheets.room b.sheet
   pub rows : length (sheets.rows b'.sheet) ≡ length (sheets.rows b.sheet)
   pub few : length rs ≤ i
+  pub accepts : n.accepted ≡ accepted rs
+  pub refuses : n.refused ≡ refused rs
 
 module _ {R S : Type 0} (rules : TickRule.Ghosts R) (sheets : OrderSheet.Ghosts S) (tape : List ℕ) (b : Book R S) where
-  pub going_none : (i : ℕ) → i ≡ 0 → Going rules sheets tape b [] i b
-  going_none i e = record { records = []; stand = sym e; replied = refl; state = refl; rule = refl; room = refl; rows = refl; few = omega arith }
+  pub going_none : (i : ℕ) (n : Counts) → i ≡ 0 → n.accepted ≡ 0 → n.refused ≡ 0 → Going rules sheets tape b [] i b n
+  going_none i n e a r = record { records = []; stand = sym e; replied = refl; state = refl; rule = refl; room = refl; rows = refl; few = omega arith; accepts = a; refuses = r }
 
-  pub going_more : (rs : List (Result Answer Listed)) (i j : ℕ) (b' b'' : Book R S) (said : Result Answer Refusal) → Going rules sheets tape b rs i b'
-      → Advanced rules sheets tape i b' (Ok (Some said)) j b'' → Going rules sheets tape b (rs ++ told said ∷ []) j b''
-  going_more rs i j b' b'' said w step =
+  -- one command more, read from the same tape
+  pub going_more : (rs : List (Result Answer Listed)) (i j : ℕ) (b' b'' : Book R S) (n n' : Counts) (read : List ℕ) (said : Result Answer Refusal)
+      → Going rules sheets tape b rs i b' n → read ≡ tape → Advanced rules sheets read i b' (Ok (Some said)) j b''
+      → n'.accepted ≡ n.accepted + yes_of said → n'.refused ≡ n.refused + no_of said
+      → Going rules sheets tape b (rs ++ told said ∷ []) j b'' n'
+  going_more rs i j b' b'' n n' read said w same_tape advanced a r =
+      let step = subst (λ (t : List ℕ). Advanced rules sheets t i b' (Ok (Some said)) j b'') same_tape advanced in
       let c : Record = step.0 in
       let cs : List Record = w.records in
       let g : Setting = setting_of rules sheets b in
@@ -100,6 +112,8 @@ module _ {R S : Type 0} (rules : TickRule.Ghosts R) (sheets : OrderSheet.Ghosts 
         room = took.room ∙ w.room;
         rows = as_many_left said _ _ took.rows ∙ w.rows;
         few = let h = w.few in let one = width_some c in let at = step.3 in let long = length_push rs (told said) in omega arith;
+        accepts = a ∙ ap (λ m. m + yes_of said) w.accepts ∙ sym (accepted-push rs said);
+        refuses = r ∙ ap (λ m. m + no_of said) w.refuses ∙ sym (refused-push rs said);
       }
     where
       same : b'.rule ≡ b.rule → sheets.room b'.sheet ≡ sheets.room b.sheet → setting_of rules sheets b' ≡ setting_of rules sheets b

@@ -26,8 +26,8 @@ pub struct Report {
 }
 
 impl Counts {
-    // One call more.
-    fn note(&mut self, said: &Result<Answer, Refusal>)
+    /// One call more.
+    pub fn note(&mut self, said: &Result<Answer, Refusal>)
         requires { self.old.accepted + self.old.refused < 2 ^ 64 - 1 }
         ensures accepted { self.new.accepted ≡ self.old.accepted + yes_of said.now }
         ensures refused { self.new.refused ≡ self.old.refused + no_of said.now }

@@ -15,11 +15,10 @@ impl fmt::Display for Said {
 
     fn fmt<W: fmt::Write>(&self, f: &mut fmt::Formatter<W>) -> fmt::Result {
         match self.0 {
-            Ok(Answer::Started) => write!(f, "started"),
-            Ok(Answer::Entered(number)) => write!(f, "order {number}"),
+            Ok(Answer::Started) => f.write_str("started"),
+            Ok(Answer::Entered(number) | Answer::Amended(number)) => write!(f, "order {number}"),
             Ok(Answer::Withdrawn(quantity)) => write!(f, "withdrawn {quantity}"),
-            Ok(Answer::Amended(number)) => write!(f, "order {number}"),
-            Ok(Answer::Shown(_)) => write!(f, "shown"),
+            Ok(Answer::Shown(_)) => f.write_str("shown"),
             Err(refusal) => {
                 let number = refusal.number();
                 write!(f, "refused {number}")

@@ -2,7 +2,7 @@
 ghost use Rattle.std.specs.Prelude.{Some};
 ghost use Rattle.opening_run.specs.Listing.{closing};
 
-use opening::{Report, Stop};
+use opening::{At, Counts, Report};
 use std::fmt;
 
 /// How a run went, as the last line says it.
@@ -13,14 +13,13 @@ impl fmt::Display for Closing {
     ghost output = { λ c. Some (closing c.0) };
 
     fn fmt<W: fmt::Write>(&self, f: &mut fmt::Formatter<W>) -> fmt::Result {
-        let report = self.0;
-        match report.stop {
-            Stop::End => {
-                let accepted = report.counts.accepted;
-                let refused = report.counts.refused;
+        let Report { counts, fault } = self.0;
+        match fault {
+            None => {
+                let Counts { accepted, refused } = counts;
                 write!(f, "end {accepted} {refused}")
             }
-            Stop::Fault { place, fault } => {
+            Some(At { place, fault }) => {
                 let number = fault.number();
                 write!(f, "fault {number} at {place}")
             }
