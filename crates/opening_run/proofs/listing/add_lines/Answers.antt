@@ -2,7 +2,7 @@ use Rattle.std.proofs.Common.{◌≡◌, ◌+◌, [], ◌∷◌, ◌++◌, lengt
 use Rattle.calls.specs.Listed.{told}
 use Rattle.opening.proofs.Going.{going_more, both-counted, one-counted}
 use Rattle.opening_run.specs.Listing.{line, lines}
-use Rattle.opening_run.proofs.Lines.{lines-push}
+use Rattle.opening_run.proofs.Lines.{lines-push, lines-told}
 use Rattle.opening_run.proofs.listing.add_lines.Goals as goal
 
 pub note-requires : goal.note-requires
@@ -41,9 +41,9 @@ commands-preserved g c =
 pub returns-in-Ok-None : goal.returns-in-Ok-None
 returns-in-Ok-None g c =
     let was = c.commands.invariant.1 in
-    (search rules, was.2 ∙ ap (λ rs. string_bytes c.args.text.now ++ lines 1 rs) was.1.replied)
+    (search rules, lines-told was.1 (string_bytes c.args.text.now) was.2)
 
 pub returns-in-Err : goal.returns-in-Err
 returns-in-Err g c =
     let was = c.commands.invariant.1 in
-    (search rules, was.2 ∙ ap (λ rs. string_bytes c.args.text.now ++ lines 1 rs) was.1.replied)
+    (search rules, lines-told was.1 (string_bytes c.args.text.now) was.2)
