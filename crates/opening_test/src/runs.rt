@@ -77,23 +77,20 @@ fn longest(rt: HostRuntime) -> Result<(), Fail> {
     let rows = &mut [JUNK; 4];
     let mut book = Book::new(Flat::new(1_000, 1_000, 1_000_000)?, ArrivalSheet::new(rows));
     let over = vec![in rt.alloc(); 0x58u8; 65_536]?;
-    let over = over.as_slice();
-    assert_eq!(rt; run(&mut book, over, 0), Err(TapeFault::OutOfBounds));
-    assert_eq!(rt; run(&mut book, over, 65_536), Err(TapeFault::OutOfBounds));
-    assert_eq!(rt;
-        run(&mut book, &over[..65_535], 0),
-        Ok(ends(0, 13_107, None))
-    );
-    assert_eq!(rt;
-        run(&mut book, &over[..65_535], 1),
-        Ok(ends(
-            0,
-            13_106,
-            Some(At {
-                place: 65_531,
-                fault: TapeFault::Truncated
-            })
-        ))
-    );
+    let most = vec![in rt.alloc(); 0x58u8; 65_535]?;
+    let (over, most) = (over.as_slice(), most.as_slice());
+    let cut = At {
+        place: 65_531,
+        fault: TapeFault::Truncated,
+    };
+    let table = [
+        (over, 0, Err(TapeFault::OutOfBounds)),
+        (over, 65_536, Err(TapeFault::OutOfBounds)),
+        (most, 0, Ok(ends(0, 13_107, None))),
+        (most, 1, Ok(ends(0, 13_106, Some(cut)))),
+    ];
+    for (tape, place, report) in table {
+        assert_eq!(rt; run(&mut book, tape, place), report);
+    }
     Ok(())
 }
