@@ -18,8 +18,8 @@ commands-preserved g c =
       (
         was.0 ++ told said ∷ [],
         going_more g.R.TickRule g.S.OrderSheet c.args.tape.now c.args.book.now was.0 c.commands.reader.place _ c.commands.book _ c.commands.counts _ c.commands.reader.tape.now said was.1 c.commands.invariant.0
-        (rw c.in-Ok-Some.field-0-is at c.in-Ok-Some.ensures.step)
-        c.note.ensures.accepted
-        c.note.ensures.refused,
+            (rw c.in-Ok-Some.field-0-is at c.in-Ok-Some.ensures.step)
+            c.note.ensures.accepted
+            c.note.ensures.refused,
       ),
     )
