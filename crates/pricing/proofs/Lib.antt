@@ -1,0 +1,6 @@
+pub mod Curves
+pub mod Flat
+pub mod Ladder
+pub mod Pricing
+pub mod Rungs
+pub mod Walk

@@ -1,0 +1,5 @@
+use Rattle.pricing.proofs.Pricing.{price-chosen, price-only}
+use Rattle.pricing.proofs.meaning.pricing_stands.Goals as goal
+
+pub returns : goal.returns
+returns c = record { chosen = price-chosen; only = price-only }

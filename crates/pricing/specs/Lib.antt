@@ -1,0 +1,5 @@
+pub mod Curves
+pub mod Flat
+pub mod Ladder
+pub mod Pricing
+pub mod Walk
