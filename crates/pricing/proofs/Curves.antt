@@ -111,5 +111,5 @@ module _ (f : Order → Bool) (who : Trade → ℕ) where
   moved-within ts os h k = omega (arith, moved-credited ts os h, credit-within ts os k)
 
 pub rivals-bound : RivalsAreBound
-rivals-bound buys offers p ts r =
-    omega (arith, moved-within (buys_at p) (λ t. t.buy) ts buys r.buyers r.bought, moved-within (sells_at p) (λ t. t.offer) ts offers r.sellers r.sold)
+rivals-bound s p ts r =
+    omega (arith, moved-within (buys_at p) (λ t. t.buy) ts s.buys r.buyers r.bought, moved-within (sells_at p) (λ t. t.offer) ts s.offers r.sellers r.sold)

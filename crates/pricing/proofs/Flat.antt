@@ -50,11 +50,11 @@ run-cut f s i n r lo hi pos el eh =
     rw (progression-cut f s i (n + r), sym el, progression-cut lo s n r, filter-append test (progression f s i) (progression lo s n ++ progression (lo + s * n) s r), filter-append test (progression lo s n) (progression (lo + s * n) s r), low, mid, high) (append-nil _)
 
 pub flat-run : FlatRun
-flat-run first step count i k pos l =
-    let e : count ≡ i + ((k + 1) + (count - i - (k + 1))) = omega arith in
-    let z : first + step * (i + k) + step ≡ first + step * i + step * (k + 1) = omega (arith, mul-add step i k, mul-add step k 1) in
-    ap (λ c. filter (between (first + step * i) (first + step * (i + k))) (progression first step c)) e
-    ∙ run-cut first step i (k + 1) (count - i - (k + 1)) (first + step * i) (first + step * (i + k)) pos refl z
+flat-run first step count i n high pos l e =
+    let all : count ≡ i + (n + (count - i - n)) = omega arith in
+    let last : high + step ≡ first + step * i + step * n = omega (arith, e, mul-add step i n) in
+    ap (λ c. filter (between (first + step * i) high) (progression first step c)) all
+    ∙ run-cut first step i n (count - i - n) (first + step * i) high pos refl last
 
 pub flat-neighbours : FlatNeighbours
 flat-neighbours first step count pos some = (

@@ -1,5 +1,6 @@
 pub mod Curves
 pub mod Flat
+pub mod Imbalance
 pub mod Ladder
 pub mod Pricing
 pub mod Rungs

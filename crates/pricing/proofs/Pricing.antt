@@ -3,16 +3,16 @@ use Rattle.std.proofs.Common.{◌≡◌, ℕ, ◌<◌, ◌≤◌, min, max, true
 use Rattle.std.proofs.lemmas.Bool.{cond_both, cases_lt, and_cases, and_parts, ltb-true, ltb-false}
 use Rattle.std.proofs.lemmas.Bool.Decides.{nat_tests}
 use Rattle.ticks.specs.Questions.{Tick}
-use Rattle.pricing.specs.Pricing.{Interest, volume, excess, Least, AllPositive, AllNegative, Nearest, Chosen, Summary, alone, nearer, with_tick, beats, ties, next_summary, sweep, answer, PriceIsChosen, PriceIsOnly}
+use Rattle.pricing.specs.Pricing.{Interest, volume, excess, Least, AllPositive, AllNegative, NearerOrLower, Chosen, Summary, alone, nearer, with_tick, beats, ties, next_summary, sweep, answer, PriceIsChosen, PriceIsOnly}
 use Rattle.pricing.proofs.Rungs.{tick-cases, tick-from, tick-none}
 
 -- what a summary says of a tick that was seen and has the summary's volume and imbalance
 pub record RankedIn (m : Interest) (s : Summary) (u : ℕ) : Type 0 where
   pub above : s.low ≤ u
   pub below : u ≤ s.high
-  pub farther : Nearest m.reference s.near u
-  pub bid : s.positive ≡ true → m.ask u < m.bid u
-  pub ask : s.negative ≡ true → m.bid u < m.ask u
+  pub farther : NearerOrLower m.reference s.near u
+  pub positive : s.positive ≡ true → m.supply u < m.demand u
+  pub negative : s.negative ≡ true → m.demand u < m.supply u
 
 -- u has the summary's volume and imbalance
 abbrev pub Tied : Interest → Summary → ℕ → Type 0
@@ -26,8 +26,8 @@ pub record SumsUp (m : Interest) (Seen : ℕ → Type 0) (s : Summary) : Type 0 
   pub low_seen : Seen s.low × Tied m s s.low
   pub high_seen : Seen s.high × Tied m s s.high
   pub near_seen : Seen s.near × Tied m s s.near
-  pub not_positive : s.positive ≡ false → (u : ℕ) × Seen u × Tied m s u × (m.bid u ≤ m.ask u)
-  pub not_negative : s.negative ≡ false → (u : ℕ) × Seen u × Tied m s u × (m.ask u ≤ m.bid u)
+  pub not_positive : s.positive ≡ false → (u : ℕ) × Seen u × Tied m s u × (m.demand u ≤ m.supply u)
+  pub not_negative : s.negative ≡ false → (u : ℕ) × Seen u × Tied m s u × (m.supply u ≤ m.demand u)
 
 pub min-either : (P : ℕ → Type 0) (a b : ℕ) → P a → P b → P (min a b)
 min-either P a b p q = elim (cases_lt a b) [ inl l ↦ (let e : min a b ≡ a = omega arith in rw e p) | inr l ↦ (let e : min a b ≡ b = omega arith in rw e q) ]
@@ -47,7 +47,7 @@ worse-by v w x y b c = grind (arith, nat_tests)
 
 module _ (m : Interest) where
   ranked-alone : (t : ℕ) → RankedIn m (alone m t) t
-  ranked-alone t = record { above = omega arith; below = omega arith; farther = inr (refl, omega arith); bid = λ h. grind (arith, nat_tests); ask = λ h. grind (arith, nat_tests) }
+  ranked-alone t = record { above = omega arith; below = omega arith; farther = inr (refl, omega arith); positive = λ h. grind (arith, nat_tests); negative = λ h. grind (arith, nat_tests) }
 
   sums-alone : (t : ℕ) → SumsUp m (λ u. t ≡ u) (alone m t)
   sums-alone t =
@@ -62,16 +62,16 @@ module _ (m : Interest) where
         not_negative = λ h. (t, refl, (refl, refl), grind (arith, nat_tests));
       }
 
-  nearer-both : (reference s t : ℕ) → Nearest reference (nearer reference s t) s × Nearest reference (nearer reference s t) t
-  nearer-both reference s t = cond_both _ t s (λ n. Nearest reference n s × Nearest reference n t) (λ h. (won _ _ t s h, inr (refl, omega arith))) (λ h. (inr (refl, omega arith), lost _ _ t s h))
+  nearer-both : (reference s t : ℕ) → NearerOrLower reference (nearer reference s t) s × NearerOrLower reference (nearer reference s t) t
+  nearer-both reference s t = cond_both _ t s (λ n. NearerOrLower reference n s × NearerOrLower reference n t) (λ h. (won _ _ t s h, inr (refl, omega arith))) (λ h. (inr (refl, omega arith), lost _ _ t s h))
 
-  nearest-trans : (reference a b c : ℕ) → Nearest reference a b → Nearest reference b c → Nearest reference a c
+  nearest-trans : (reference a b c : ℕ) → NearerOrLower reference a b → NearerOrLower reference b c → NearerOrLower reference a c
   nearest-trans reference a b c (inl p) (inl q) = inl (omega arith)
   nearest-trans reference a b c (inl p) (inr q) = inl (omega arith)
   nearest-trans reference a b c (inr p) (inl q) = inl (omega arith)
   nearest-trans reference a b c (inr p) (inr q) = inr (omega arith)
 
-  nearest-same : (reference a b : ℕ) → Nearest reference a b → Nearest reference b a → a ≡ b
+  nearest-same : (reference a b : ℕ) → NearerOrLower reference a b → NearerOrLower reference b a → a ≡ b
   nearest-same reference a b p q = omega arith
 
   module _ (Seen : ℕ → Type 0) (s : Summary) (S : SumsUp m Seen s) (t : ℕ) where
@@ -118,9 +118,9 @@ module _ (m : Interest) where
             record {
               above = omega (arith, r.above);
               below = omega (arith, r.below);
-              farther = nearest-trans m.reference _ s.near u ((nearer-both m.reference s.near t).0) r.farther;
-              bid = λ h. r.bid ((and_parts s.positive _ h).0);
-              ask = λ h. r.ask ((and_parts s.negative _ h).0);
+              farther = nearest-trans m.reference _ s.near u (nearer-both m.reference s.near t).0 r.farther;
+              positive = λ h. r.positive (and_parts s.positive _ h).0;
+              negative = λ h. r.negative (and_parts s.negative _ h).0;
             }
 
         newer : RankedIn m (with_tick m s t) t
@@ -129,8 +129,8 @@ module _ (m : Interest) where
               above = omega arith;
               below = omega arith;
               farther = (nearer-both m.reference s.near t).1;
-              bid = λ h. ltb-true _ _ ((and_parts s.positive _ h).1);
-              ask = λ h. ltb-true _ _ ((and_parts s.negative _ h).1);
+              positive = λ h. ltb-true _ _ (and_parts s.positive _ h).1;
+              negative = λ h. ltb-true _ _ (and_parts s.negative _ h).1;
             }
 
     sums-kept : beats m s t ≡ false → ties m s t ≡ false → SumsUp m More s
@@ -176,41 +176,41 @@ module _ (m : Interest) where
       sums-like (λ u. (t ≡ u) ⊎ Tick ts u) (Tick (t ∷ ts)) (sweep m (alone m t) ts) (tick-from t ts) (tick-cases t ts) (sums-sweep (λ u. t ≡ u) (alone m t) ts (sums-alone t))
 
   -- ---- what a summary answers
-  module _ (Cand : ℕ → Type 0) (s : Summary) (S : SumsUp m Cand s) where
-    to-least : (u : ℕ) → Cand u → Tied m s u → Least m Cand u
+  module _ (Candidate : ℕ → Type 0) (s : Summary) (S : SumsUp m Candidate s) where
+    to-least : (u : ℕ) → Candidate u → Tied m s u → Least m Candidate u
     to-least u c k = ((c, λ w d. omega (arith, S.most w d, k)), λ w d. omega (arith, S.least w d.0 (omega (arith, S.most w d.0, d.1 u c, k)), k))
 
-    from-least : (u : ℕ) → Least m Cand u → Tied m s u
+    from-least : (u : ℕ) → Least m Candidate u → Tied m s u
     from-least u l =
         let low = S.low_seen in
         let v : volume m u ≡ s.best = omega (arith, S.most u l.0.0, l.0.1 s.low low.0, low.1) in
         let w = to-least s.low low.0 low.1 in
         (v, omega (arith, S.least u l.0.0 v, l.1 s.low w.0, low.1))
 
-    rank : (u : ℕ) → Least m Cand u → RankedIn m s u
+    rank : (u : ℕ) → Least m Candidate u → RankedIn m s u
     rank u l = S.ranked u l.0.0 (from-least u l)
 
-    chosen-high : s.positive ≡ true → Chosen m Cand s.high
+    chosen-high : s.positive ≡ true → Chosen m Candidate s.high
     chosen-high b =
         let kept = to-least s.high S.high_seen.0 S.high_seen.1 in
         record {
           kept = kept;
           highest = λ _ u l. (rank u l).below;
-          lowest = λ h. absurd (omega (arith, h s.high kept, (rank s.high kept).bid b));
-          nearest = λ h. absurd (h (λ u l. (rank u l).bid b));
+          lowest = λ h. absurd (omega (arith, h s.high kept, (rank s.high kept).positive b));
+          nearest = λ h. absurd (h (λ u l. (rank u l).positive b));
         }
 
-    chosen-low : s.negative ≡ true → Chosen m Cand s.low
+    chosen-low : s.negative ≡ true → Chosen m Candidate s.low
     chosen-low b =
         let kept = to-least s.low S.low_seen.0 S.low_seen.1 in
         record {
           kept = kept;
-          highest = λ h. absurd (omega (arith, h s.low kept, (rank s.low kept).ask b));
+          highest = λ h. absurd (omega (arith, h s.low kept, (rank s.low kept).negative b));
           lowest = λ _ u l. (rank u l).above;
-          nearest = λ _ h. absurd (h (λ u l. (rank u l).ask b));
+          nearest = λ _ h. absurd (h (λ u l. (rank u l).negative b));
         }
 
-    chosen-near : s.positive ≡ false → s.negative ≡ false → Chosen m Cand s.near
+    chosen-near : s.positive ≡ false → s.negative ≡ false → Chosen m Candidate s.near
     chosen-near b a =
         let x = S.not_positive b in
         let y = S.not_negative a in
@@ -221,23 +221,23 @@ module _ (m : Interest) where
           nearest = λ _ _ u l. (rank u l).farther;
         }
 
-    pub chosen-answer : Chosen m Cand (answer s)
-    chosen-answer = cond_both s.positive s.high (cond s.negative s.low s.near) (Chosen m Cand) chosen-high (λ b. cond_both s.negative s.low s.near (Chosen m Cand) chosen-low (chosen-near b))
+    pub chosen-answer : Chosen m Candidate (answer s)
+    chosen-answer = cond_both s.positive s.high (cond s.negative s.low s.near) (Chosen m Candidate) chosen-high (λ b. cond_both s.negative s.low s.near (Chosen m Candidate) chosen-low (chosen-near b))
 
     -- no other tick is chosen
-    pub chosen-once : (t : ℕ) → Chosen m Cand t → t ≡ answer s
+    pub chosen-once : (t : ℕ) → Chosen m Candidate t → t ≡ answer s
     chosen-once t C =
         cond_both s.positive s.high (cond s.negative s.low s.near) (λ n. t ≡ n)
-        (λ b. let K = (chosen-high b).kept in omega (arith, C.highest (λ u l. (rank u l).bid b) s.high K, (rank t C.kept).below))
+        (λ b. let K = (chosen-high b).kept in omega (arith, C.highest (λ u l. (rank u l).positive b) s.high K, (rank t C.kept).below))
         (λ b. cond_both s.negative s.low s.near (λ n. t ≡ n)
-        (λ a. let K = (chosen-low a).kept in omega (arith, C.lowest (λ u l. (rank u l).ask a) s.low K, (rank t C.kept).above))
-        (λ a. nearest-same m.reference t s.near (C.nearest (mixed-bid b) (mixed-ask a) s.near ((chosen-near b a).kept)) ((rank t C.kept).farther)))
+        (λ a. let K = (chosen-low a).kept in omega (arith, C.lowest (λ u l. (rank u l).negative a) s.low K, (rank t C.kept).above))
+        (λ a. nearest-same m.reference t s.near (C.nearest (mixed-positive b) (mixed-negative a) s.near (chosen-near b a).kept) (rank t C.kept).farther))
       where
-        mixed-bid : s.positive ≡ false → AllPositive m Cand → ⊥
-        mixed-bid b h = let x = S.not_positive b in omega (arith, h x.0 (to-least x.0 x.1 x.2), x.3)
+        mixed-positive : s.positive ≡ false → AllPositive m Candidate → ⊥
+        mixed-positive b h = let x = S.not_positive b in omega (arith, h x.0 (to-least x.0 x.1 x.2), x.3)
 
-        mixed-ask : s.negative ≡ false → AllNegative m Cand → ⊥
-        mixed-ask a h = let y = S.not_negative a in omega (arith, h y.0 (to-least y.0 y.1 y.2), y.3)
+        mixed-negative : s.negative ≡ false → AllNegative m Candidate → ⊥
+        mixed-negative a h = let y = S.not_negative a in omega (arith, h y.0 (to-least y.0 y.1 y.2), y.3)
 
 pub price-chosen : PriceIsChosen
 price-chosen m t ts = chosen-answer m (Tick (t ∷ ts)) (sweep m (alone m t) ts) (sums-price m t ts)

@@ -4,6 +4,7 @@ use Rattle.std.specs.List.{AllByRecursion, list_any}
 use Rattle.market.specs.declared.order.Kind.{Kind}
 use Rattle.market.specs.declared.order.Kind.TheVariants.{Limit, Market}
 use Rattle.market.specs.declared.order.Order.{Order}
+use Rattle.sheets.specs.Sides.{Sides, numbered}
 
 abbrev pub market_kind : Kind → Bool
 market_kind Limit = false
@@ -50,14 +51,14 @@ given who ts n = sum_by (λ t. cond (who t == n) t.quantity 0) ts
 
 -- whether a list has an order of number n that passes a test
 abbrev pub takes_part : (Order → Bool) → List Order → ℕ → Bool
-takes_part test os n = list_any (λ o. o.number == n && test o) os
+takes_part test os n = list_any (λ o. numbered n o && test o) os
 
 -- trades that the orders allow at price p: each buy and each offer stands and takes p, and none is given more than it holds
-pub record Rival (buys offers : List Order) (p : ℕ) (ts : List Trade) : Type 0 where
-  pub buyers : AllByRecursion (λ t. takes_part (buys_at p) buys t.buy ≡ true) ts
-  pub sellers : AllByRecursion (λ t. takes_part (sells_at p) offers t.offer ≡ true) ts
-  pub bought : AllByRecursion (λ o. given (λ t. t.buy) ts o.number ≤ o.quantity) buys
-  pub sold : AllByRecursion (λ o. given (λ t. t.offer) ts o.number ≤ o.quantity) offers
+pub record Rival (s : Sides) (p : ℕ) (ts : List Trade) : Type 0 where
+  pub buyers : AllByRecursion (λ t. takes_part (buys_at p) s.buys t.buy ≡ true) ts
+  pub sellers : AllByRecursion (λ t. takes_part (sells_at p) s.offers t.offer ≡ true) ts
+  pub bought : AllByRecursion (λ o. given (λ t. t.buy) ts o.number ≤ o.quantity) s.buys
+  pub sold : AllByRecursion (λ o. given (λ t. t.offer) ts o.number ≤ o.quantity) s.offers
 
 -- ---- what holds of all
 
@@ -83,4 +84,4 @@ SupplyIsFlat = (os : List Order) (p q : ℕ) → p ≤ q → AllByRecursion (Cle
 
 -- a rival moves at most the smaller of demand and supply at its price
 abbrev pub RivalsAreBound : Type 0
-RivalsAreBound = (buys offers : List Order) (p : ℕ) (ts : List Trade) → Rival buys offers p ts → moved ts ≤ min (demand buys p) (supply offers p)
+RivalsAreBound = (s : Sides) (p : ℕ) (ts : List Trade) → Rival s p ts → moved ts ≤ min (demand s.buys p) (supply s.offers p)

@@ -3,15 +3,15 @@ use Rattle.std.specs.Prelude.{◌≡◌, ℕ, ◌+◌, ◌-◌, ◌*◌, ◌<◌
 use Rattle.ticks.specs.Ticks.{first_above, last_below, progression}
 use Rattle.pricing.specs.Ladder.{between}
 
--- its ticks from tick i to tick i + k are k + 1 steps from tick i on
+-- of its ticks those from tick i to the n-th from there, `high`, are n steps from tick i on
 abbrev pub FlatRun : Type 0
 FlatRun =
-    (first step count i k : ℕ) → 1 ≤ step → i + k < count
-    → filter (between (first + step * i) (first + step * (i + k))) (progression first step count) ≡ progression (first + step * i) step (k + 1)
+    (first step count i n high : ℕ) → 1 ≤ step → i + n ≤ count → high + step ≡ first + step * (i + n)
+    → filter (between (first + step * i) high) (progression first step count) ≡ progression (first + step * i) step n
 
--- below tick i + 1 stands tick i, and nothing below the first
+-- below tick i + 1 stands tick i, also where tick i is the last, and nothing below the first
 pub record FlatBelow (first step count : ℕ) : Type 0 where
-  pub next : (i : ℕ) → i + 1 < count → last_below (progression first step count) (first + step * (i + 1)) ≡ Some (first + step * i)
+  pub next : (i : ℕ) → i < count → last_below (progression first step count) (first + step * (i + 1)) ≡ Some (first + step * i)
   pub end : last_below (progression first step count) first ≡ None
 
 -- above tick i stands tick i + 1, and nothing above the last

@@ -1,56 +1,57 @@
 -- Steps 1 to 3 over the candidate ticks, and the one pass that finds their answer.
-use Rattle.std.specs.Prelude.{◌≡◌, ℕ, ◌+◌, ◌-◌, ◌<◌, ◌≤◌, min, max, Bool, cond, ◌&&◌, ◌||◌, ◌⊎◌, List, [], ◌∷◌, ◌==◌, nat_lt}
+use Rattle.std.specs.Prelude.{◌≡◌, ℕ, ◌<◌, ◌≤◌, min, max, Bool, cond, ◌&&◌, ◌||◌, ◌⊎◌, List, [], ◌∷◌, ℤ, pos, ◌-ℤ◌, unsigned_abs, int_lt, ◌==◌, nat_lt}
+use Rattle.std.specs.Int.{abs_diff}
 use Rattle.ticks.specs.Questions.{Tick}
 use Rattle.sheets.specs.Sides.{Sides}
 use Rattle.pricing.specs.Curves.{demand, supply}
 
--- the distance of two numbers
-abbrev pub gap : ℕ → ℕ → ℕ
-gap m n = (m - n) + (n - m)
-
--- what a tick is judged by: what is bid and what is asked at each price, and the reference price
+-- what a tick is judged by: demand and supply at each price, and the reference price
 pub record Interest : Type 0 where
-  pub bid : ℕ → ℕ
-  pub ask : ℕ → ℕ
+  pub demand : ℕ → ℕ
+  pub supply : ℕ → ℕ
   pub reference : ℕ
 
 -- the interest of the orders that stand
 abbrev pub interest_of : Sides → ℕ → Interest
-interest_of s reference = record { bid = demand s.buys; ask = supply s.offers; reference = reference }
+interest_of s reference = record { demand = demand s.buys; supply = supply s.offers; reference = reference }
 
--- the smaller of the two
+-- what can trade at t: the smaller of the two
 abbrev pub volume : Interest → ℕ → ℕ
-volume m t = min (m.bid t) (m.ask t)
+volume m t = min (m.demand t) (m.supply t)
 
--- the imbalance, bid less asked, without its sign
+-- the imbalance at t: demand less supply
+abbrev pub imbalance : Interest → ℕ → ℤ
+imbalance m t = pos (m.demand t) -ℤ pos (m.supply t)
+
+-- the imbalance without its sign
 abbrev pub excess : Interest → ℕ → ℕ
-excess m t = gap (m.bid t) (m.ask t)
+excess m t = abs_diff (m.demand t) (m.supply t)
 
 -- step 1: no candidate has more volume than t
 abbrev pub Most : Interest → (ℕ → Type 0) → ℕ → Type 0
-Most m Cand t = Cand t × ((u : ℕ) → Cand u → volume m u ≤ volume m t)
+Most m Candidate t = Candidate t × ((u : ℕ) → Candidate u → volume m u ≤ volume m t)
 
 -- step 2: of those, none has a smaller imbalance
 abbrev pub Least : Interest → (ℕ → Type 0) → ℕ → Type 0
-Least m Cand t = Most m Cand t × ((u : ℕ) → Most m Cand u → excess m t ≤ excess m u)
+Least m Candidate t = Most m Candidate t × ((u : ℕ) → Most m Candidate u → excess m t ≤ excess m u)
 
 -- of those, all have a positive imbalance, or all a negative one
 abbrev pub AllPositive : Interest → (ℕ → Type 0) → Type 0
-AllPositive m Cand = (u : ℕ) → Least m Cand u → m.ask u < m.bid u
+AllPositive m Candidate = (u : ℕ) → Least m Candidate u → m.supply u < m.demand u
 
 abbrev pub AllNegative : Interest → (ℕ → Type 0) → Type 0
-AllNegative m Cand = (u : ℕ) → Least m Cand u → m.bid u < m.ask u
+AllNegative m Candidate = (u : ℕ) → Least m Candidate u → m.demand u < m.supply u
 
 -- t is nearer to the reference price than u, or as near and not higher
-abbrev pub Nearest : ℕ → ℕ → ℕ → Type 0
-Nearest reference t u = (gap reference t < gap reference u) ⊎ ((gap reference t ≡ gap reference u) × (t ≤ u))
+abbrev pub NearerOrLower : ℕ → ℕ → ℕ → Type 0
+NearerOrLower reference t u = (abs_diff reference t < abs_diff reference u) ⊎ ((abs_diff reference t ≡ abs_diff reference u) × (t ≤ u))
 
 -- step 3: of those, the highest if all are positive, the lowest if all are negative, otherwise the nearest, and of two equally near the lower
-pub record Chosen (m : Interest) (Cand : ℕ → Type 0) (t : ℕ) : Type 0 where
-  pub kept : Least m Cand t
-  pub highest : AllPositive m Cand → (u : ℕ) → Least m Cand u → u ≤ t
-  pub lowest : AllNegative m Cand → (u : ℕ) → Least m Cand u → t ≤ u
-  pub nearest : (AllPositive m Cand → ⊥) → (AllNegative m Cand → ⊥) → (u : ℕ) → Least m Cand u → Nearest m.reference t u
+pub record Chosen (m : Interest) (Candidate : ℕ → Type 0) (t : ℕ) : Type 0 where
+  pub kept : Least m Candidate t
+  pub highest : AllPositive m Candidate → (u : ℕ) → Least m Candidate u → u ≤ t
+  pub lowest : AllNegative m Candidate → (u : ℕ) → Least m Candidate u → t ≤ u
+  pub nearest : (AllPositive m Candidate → ⊥) → (AllNegative m Candidate → ⊥) → (u : ℕ) → Least m Candidate u → NearerOrLower m.reference t u
 
 -- ---- the one pass
 
@@ -68,12 +69,12 @@ pub record Summary : Type 0 where
 -- the summary of one tick
 abbrev pub alone : Interest → ℕ → Summary
 alone m t =
-    record { best = volume m t; least = excess m t; low = t; high = t; near = t; positive = nat_lt (m.ask t) (m.bid t); negative = nat_lt (m.bid t) (m.ask t) }
+    record { best = volume m t; least = excess m t; low = t; high = t; near = t; positive = nat_lt (m.supply t) (m.demand t); negative = nat_lt (m.demand t) (m.supply t) }
 
 -- the nearer of two, and of two equally near the lower
 abbrev pub nearer : ℕ → ℕ → ℕ → ℕ
 nearer reference s t =
-    cond (nat_lt (gap reference t) (gap reference s) || (gap reference t == gap reference s && nat_lt t s)) t s
+    cond (nat_lt (abs_diff reference t) (abs_diff reference s) || (abs_diff reference t == abs_diff reference s && nat_lt t s)) t s
 
 -- one tick more, of the same volume and imbalance
 abbrev pub with_tick : Interest → Summary → ℕ → Summary
@@ -84,8 +85,8 @@ with_tick m s t =
       low = min s.low t;
       high = max s.high t;
       near = nearer m.reference s.near t;
-      positive = s.positive && nat_lt (m.ask t) (m.bid t);
-      negative = s.negative && nat_lt (m.bid t) (m.ask t);
+      positive = s.positive && nat_lt (m.supply t) (m.demand t);
+      negative = s.negative && nat_lt (m.demand t) (m.supply t);
     }
 
 -- whether t has more volume, or as much and a smaller imbalance
@@ -113,6 +114,15 @@ abbrev pub price : Interest → ℕ → List ℕ → ℕ
 price m t ts = answer (sweep m (alone m t) ts)
 
 -- ---- what holds of all
+
+-- the sign and the size of an imbalance, in demand and supply
+pub record ImbalanceAt (m : Interest) (t : ℕ) : Type 0 where
+  pub size : unsigned_abs (imbalance m t) ≡ excess m t
+  pub positive : int_lt (pos 0) (imbalance m t) ≡ nat_lt (m.supply t) (m.demand t)
+  pub negative : int_lt (imbalance m t) (pos 0) ≡ nat_lt (m.demand t) (m.supply t)
+
+abbrev pub EachImbalance : Type 0
+EachImbalance = (m : Interest) (t : ℕ) → ImbalanceAt m t
 
 -- the price is a tick that passes steps 1 to 3
 abbrev pub PriceIsChosen : Type 0

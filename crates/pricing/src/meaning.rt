@@ -3,7 +3,7 @@
 ghost use Rattle.pricing.specs.Curves.{DemandFalls, SupplyRises, DemandIsFlat, SupplyIsFlat, RivalsAreBound};
 ghost use Rattle.pricing.specs.Flat.{FlatRun, FlatNeighbours};
 ghost use Rattle.pricing.specs.Ladder.{LadderStandsForAll, RungsAreTicks};
-ghost use Rattle.pricing.specs.Pricing.{PriceIsChosen, PriceIsOnly};
+ghost use Rattle.pricing.specs.Pricing.{EachImbalance, PriceIsChosen, PriceIsOnly};
 ghost use Rattle.pricing.specs.Walk.{DemandGoesOn, SupplyGoesOn};
 
 /// Demand falls and supply rises with the price, weakly; neither changes between two prices that no
@@ -23,8 +23,10 @@ pub fn ladder_stands()
     ensures ticks { RungsAreTicks }
 {}
 
-/// The price that the pass finds is a tick that passes steps 1 to 3, and no other tick passes them.
+/// An imbalance has the sign and the size of demand less supply. The price that the pass finds is a
+/// tick that passes steps 1 to 3, and no other tick passes them.
 pub fn pricing_stands()
+    ensures imbalance { EachImbalance }
     ensures chosen { PriceIsChosen }
     ensures only { PriceIsOnly }
 {}
