@@ -4,4 +4,5 @@ pub mod Imbalance
 pub mod Ladder
 pub mod Pricing
 pub mod Rungs
+pub mod Tallied
 pub mod Walk

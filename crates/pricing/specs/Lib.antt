@@ -3,3 +3,4 @@ pub mod Flat
 pub mod Ladder
 pub mod Pricing
 pub mod Walk
+pub mod Tallies

@@ -1,5 +1,8 @@
 #![tactic(auto)]
 // What the price of an auction is: demand and supply, the ladder, the three steps, and the pass that finds their answer.
 mod meaning;
+mod rung;
+mod tally;
 
 pub use meaning::{curves_stand, flat_stands, ladder_stands, pricing_stands, walk_stands};
+pub use rung::{Indication, Rung};
