@@ -1,4 +1,6 @@
+pub mod Climbs
 pub mod Curves
+pub mod Ends
 pub mod Flat
 pub mod Imbalance
 pub mod Ladder

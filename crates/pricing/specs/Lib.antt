@@ -2,5 +2,6 @@ pub mod Curves
 pub mod Flat
 pub mod Ladder
 pub mod Pricing
+pub mod Spans
 pub mod Walk
 pub mod Tallies
