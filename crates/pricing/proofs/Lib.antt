@@ -1,3 +1,4 @@
+pub mod Bounds
 pub mod Climbs
 pub mod Curves
 pub mod Ends
