@@ -14,7 +14,7 @@ use Rattle.pricing.specs.Walk.{quantity_at}
 use Rattle.pricing.proofs.Climbs.{answer-tallied, supply-above}
 use Rattle.pricing.proofs.Curves.{quantity-more}
 
--- n orders hold less than n times 2^32
+-- n orders hold at most n times 2^32 - 1
 quantity-bounded : (test : Order → Bool) (os : List Order) → AllByRecursion Bounded os → quantity_of test os ≤ 4294967295 * length os
 quantity-bounded test [] h = omega arith
 quantity-bounded test (o ∷ os) h =

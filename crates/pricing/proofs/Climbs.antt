@@ -77,7 +77,7 @@ above-upto ts p q high up h l e = (above-is ts p q up e).smallest high h l
 
 -- ---- the ticks that are left
 
--- past t it is the same from where one begins up to there
+-- where all ticks are over t, it is the same to begin at t + 1 or lower
 past-same : (ts : List ℕ) (p t high : ℕ) → AllByRecursion (λ u. t < u) ts → p ≤ t + 1 → filter (between p high) ts ≡ filter (between (t + 1) high) ts
 past-same [] p t high h l = refl
 past-same (u ∷ us) p t high h l = let rest = past-same us p t high h.1 l in let here = h.0 in grind (arith, nat_tests)
