@@ -9,3 +9,5 @@ pub mod Pricing
 pub mod Rungs
 pub mod Tallied
 pub mod Walk
+pub mod Walks
+pub mod Counts

@@ -5,3 +5,4 @@ pub mod Pricing
 pub mod Spans
 pub mod Walk
 pub mod Tallies
+pub mod Totals

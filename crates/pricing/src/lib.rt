@@ -3,6 +3,7 @@
 mod meaning;
 mod rung;
 mod tally;
+mod totals;
 
 pub use meaning::{curves_stand, flat_stands, ladder_stands, pricing_stands, walk_stands};
 pub use rung::{Indication, Rung};
