@@ -5,7 +5,9 @@ use Rattle.market.specs.declared.order.Order.{Order}
 use Rattle.ticks.specs.Ticks.{first_above, Rising}
 use Rattle.ticks.specs.Questions.{Tick}
 use Rattle.sheets.specs.Laws.{Bounded, SheetLaws}
-use Rattle.sheets.specs.Sides.{Sides, standing}
+use Rattle.market.specs.declared.order.Side.{Side}
+use Rattle.market.specs.declared.order.Side.TheVariants.{Buy, Offer}
+use Rattle.sheets.specs.Sides.{Sides, standing, of_side}
 use Rattle.pricing.specs.Curves.{buys_at, sells_at, quantity_of, supply}
 use Rattle.pricing.specs.Ladder.{limits}
 use Rattle.pricing.specs.Pricing.{Summary, interest_of, answer}
@@ -30,6 +32,10 @@ module _ (n : ℕ) (s : Sides) (l : SheetLaws n s) where
 
   pub offers-small : (test : Order → Bool) → quantity_of test s.offers < 8796093022208
   offers-small test = omega (arith, quantity-bounded test s.offers l.offers.bounded, l.offers.fits, l.small)
+
+  pub side-small : (v : Side) (test : Order → Bool) → quantity_of test (of_side v s) < 8796093022208
+  side-small Buy test = buys-small test
+  side-small Offer test = offers-small test
 
   pub rung-small : (reference t : ℕ) → IsSmall (rung_at (interest_of s reference) t)
   rung-small reference t = (buys-small (buys_at t), offers-small (sells_at t))

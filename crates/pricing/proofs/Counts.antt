@@ -1,5 +1,5 @@
 -- What a walk has counted at one price, and what is left to count.
-use Rattle.std.proofs.Common.{◌≡◌, ℕ, ◌+◌, ◌*◌, ◌<◌, ◌≤◌, Bool, true, false, cond, not, ◌&&◌, List, [], ◌∷◌, Some, filter, length, ◌==◌, nat_le, sym, refl, ap, ◌∙◌, mul-suc, arith}
+use Rattle.std.proofs.Common.{◌≡◌, ℕ, ◌+◌, ◌<◌, Bool, true, false, cond, not, ◌&&◌, List, [], ◌∷◌, Some, filter, ◌==◌, nat_le, sym, refl, ap, ◌∙◌, arith}
 use Rattle.std.specs.List.{AllByRecursion}
 use Rattle.std.proofs.lemmas.Bool.Decides.{nat_tests}
 use Rattle.market.specs.declared.order.Order.{Order}
@@ -9,10 +9,10 @@ use Rattle.market.specs.declared.priority.Priority.{Priority}
 use Rattle.market.specs.Priority.{priority_of}
 use Rattle.sheets.specs.Sides.{Sides, of_side, is_behind, outranks}
 use Rattle.sheets.specs.Laws.{Bounded, SheetLaws}
-use Rattle.sheets.proofs.Tops.{side_laws}
 use Rattle.pricing.specs.Curves.{is_market, quantity_of}
 use Rattle.pricing.specs.Totals.{edge}
 use Rattle.pricing.specs.Walk.{quantity_at}
+use Rattle.pricing.proofs.Bounds.{side-small}
 use Rattle.pricing.proofs.Curves.{quantity-more}
 use Rattle.pricing.proofs.Walks.{rest}
 
@@ -101,22 +101,8 @@ counting-past v p n o before os e ne h =
 pub counting-all : (v : Side) (p n : ℕ) (left os : List Order) → left ≡ [] → Counting v p n left os → n ≡ quantity_at p os
 counting-all v p n left os e h = let k : Counting v p n [] os = rw e at h in omega (arith, k.sum)
 
--- ---- bounds
-
-pub quantity-bound : (f : Order → Bool) (os : List Order) → AllByRecursion Bounded os → quantity_of f os ≤ 4294967295 * length os
-quantity-bound f [] a = omega arith
-quantity-bound f (o ∷ os) a =
-    let q = a.0.quantity in
-    let rest = quantity-bound f os a.1 in
-    let more = quantity-more f o os in
-    let long = mul-suc 4294967295 (length os) in
-    grind arith
-
--- each total of a side fits
-pub side-small : (v : Side) (n : ℕ) (s : Sides) (f : Order → Bool) → SheetLaws n s → quantity_of f (of_side v s) < 8796093022208
-side-small v n s f l = let k = side_laws v n s l in omega (arith, quantity-bound f (of_side v s) k.bounded, k.fits, l.small)
-
+-- what is counted fits
 pub counting-fits : (v : Side) (p n m : ℕ) (o : Order) (before left : List Order) (s : Sides) → before ≡ o ∷ left → o.price ≡ p → Counting v p n before (of_side v s) → SheetLaws m s → n + o.quantity < 8796093022208
 counting-fits v p n m o before left s e here h l =
     let k = counting-more v p n o before left (of_side v s) e here h in
-    omega (arith, k.sum, side-small v m s (λ x. not (is_market x) && x.price == p) l)
+    omega (arith, k.sum, side-small m s l v (λ x. not (is_market x) && x.price == p))

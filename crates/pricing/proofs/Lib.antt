@@ -1,5 +1,6 @@
 pub mod Bounds
 pub mod Climbs
+pub mod Counts
 pub mod Curves
 pub mod Ends
 pub mod Flat
@@ -10,4 +11,3 @@ pub mod Rungs
 pub mod Tallied
 pub mod Walk
 pub mod Walks
-pub mod Counts
