@@ -10,7 +10,8 @@ use Rattle.sheets.specs.Sides.{Sides, standing}
 use Rattle.sheets.proofs.Numbers.{all_left, all_right}
 use Rattle.pricing.specs.Curves.{is_market, buys_at, sells_at, quantity_of, demand, supply}
 use Rattle.pricing.specs.Ladder.{limits, lowest, highest, bottom, top, between, ladder_over}
-use Rattle.pricing.specs.Spans.{Span, span_of, widened, joined_spans}
+use Rattle.pricing.specs.declared.span.Span.{Span}
+use Rattle.pricing.specs.Spans.{span_of, widened, joined_spans}
 use Rattle.pricing.specs.Walk.{quantity_at}
 use Rattle.pricing.proofs.Climbs.{climb-first}
 use Rattle.pricing.proofs.Curves.{quantity-more}

@@ -11,3 +11,4 @@ pub mod Rungs
 pub mod Tallied
 pub mod Walk
 pub mod Walks
+pub mod Surveys

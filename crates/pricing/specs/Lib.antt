@@ -6,3 +6,4 @@ pub mod Spans
 pub mod Walk
 pub mod Tallies
 pub mod Totals
+pub mod Surveys

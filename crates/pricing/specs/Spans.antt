@@ -1,12 +1,9 @@
 -- The span of some prices, as a pass over a side keeps it.
 use Rattle.std.specs.Prelude.{ℕ, min, max, List, [], ◌∷◌, Some, None, Option}
+use Rattle.pricing.specs.declared.span.Span.{Span}
 use Rattle.pricing.specs.Ladder.{lowest, highest}
 
 -- the lowest and the highest of some prices
-pub record Span : Type 0 where
-  pub low : ℕ
-  pub high : ℕ
-
 abbrev pub span_of : List ℕ → Option Span
 span_of [] = None
 span_of (p ∷ ps) = Some (record { low = lowest p ps; high = highest p ps })

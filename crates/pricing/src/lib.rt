@@ -2,6 +2,8 @@
 // What the price of an auction is: demand and supply, the ladder, the three steps, and the pass that finds their answer.
 mod meaning;
 mod rung;
+mod span;
+mod survey;
 mod tally;
 mod totals;
 
