@@ -12,3 +12,4 @@ pub mod Tallied
 pub mod Walk
 pub mod Walks
 pub mod Surveys
+pub mod Passes

@@ -7,3 +7,4 @@ pub mod Walk
 pub mod Tallies
 pub mod Totals
 pub mod Surveys
+pub mod Passes
