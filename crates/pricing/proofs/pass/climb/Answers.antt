@@ -1,6 +1,5 @@
-use Rattle.std.proofs.Common.{◌≡◌, Some, sym, ap, ◌∙◌, refl, rules, arith}
+use Rattle.std.proofs.Common.{◌≡◌, Some, sym, ap, ◌∙◌, arith}
 use Rattle.pricing.specs.Pricing.{interest_of}
-use Rattle.pricing.specs.Tallies.{rung_at, next_of}
 use Rattle.pricing.proofs.Climbs.{climb-next, climb-none, climb-end, above-is, above-upto, bid-covers, rung-above}
 use Rattle.ticks.specs.Ticks.{first_above}
 use Rattle.pricing.proofs.Bounds.{ask-small}

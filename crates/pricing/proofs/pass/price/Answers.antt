@@ -1,12 +1,11 @@
-use Rattle.std.proofs.Common.{◌≡◌, ℕ, ◌+◌, ◌≤◌, Some, None, [], ◌∷◌, filter, unwrap_or, sym, ap, subst, ◌∙◌, refl, rules, arith}
+use Rattle.std.proofs.Common.{◌≡◌, ◌+◌, ◌≤◌, [], ◌∷◌, filter, unwrap_or, sym, ap, subst, ◌∙◌, arith}
 use Rattle.std.specs.List.{AllByRecursion}
 use Rattle.ticks.specs.Questions.{Tick}
 use Rattle.sheets.specs.Sides.{standing}
 use Rattle.pricing.specs.Ladder.{limits, bottom, top, between}
 use Rattle.pricing.specs.Passes.{auction_on}
 use Rattle.pricing.specs.Pricing.{interest_of, alone, sweep}
-use Rattle.pricing.specs.Spans.{span_of}
-use Rattle.pricing.specs.Tallies.{IsSmall, rung_at, alone_of, answer_of, auction_of}
+use Rattle.pricing.specs.Tallies.{IsSmall, alone_of, answer_of, auction_of}
 use Rattle.pricing.proofs.Bounds.{rung-small, answer-small}
 use Rattle.pricing.proofs.Climbs.{sweep-tallied}
 use Rattle.pricing.proofs.Ends.{Ends, ends, no-ends}
