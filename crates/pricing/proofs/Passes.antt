@@ -1,8 +1,11 @@
 -- The pass on its way up the ladder.
-use Rattle.std.proofs.Common.{◌≡◌, ℕ, ◌+◌, ◌-◌, ◌≤◌, Bool, true, false, cond, List, [], ◌∷◌, ◌==◌, Some, None, map, filter, fold, sym, ap, ◌∙◌}
+use Rattle.std.proofs.Common.{◌≡◌, ℕ, ◌+◌, ◌-◌, ◌≤◌, Bool, true, false, cond, List, [], ◌∷◌, ◌==◌, Some, None, map, filter, fold, sym, ap, ◌∙◌, Option, unwrap_or, subst}
 use Rattle.pricing.specs.declared.rung.Rung.{Rung}
 use Rattle.pricing.specs.declared.tally.Tally.{Tally}
-use Rattle.pricing.specs.Ladder.{between, limits}
+use Rattle.ticks.specs.Ticks.{first_above, last_below, Lawful}
+use Rattle.ticks.specs.Questions.{Tick}
+use Rattle.pricing.specs.declared.span.Span.{Span}
+use Rattle.pricing.specs.Ladder.{between, limits, bottom, top, ladder}
 use Rattle.std.specs.List.{AllByRecursion}
 use Rattle.sheets.specs.Sides.{Sides, standing}
 use Rattle.pricing.specs.declared.survey.Survey.{Survey}
@@ -13,7 +16,7 @@ use Rattle.pricing.specs.Walk.{quantity_at}
 use Rattle.pricing.specs.Tallies.{rung_at, alone_of, next_of, auction_of, indicated}
 use Rattle.pricing.specs.Passes.{tally_over, auction_on}
 use Rattle.pricing.proofs.Climbs.{sweep-tallied, answer-tallied}
-use Rattle.pricing.proofs.Ends.{span-standing, demand-only, supply-only, demand-bottom, supply-bottom}
+use Rattle.pricing.proofs.Ends.{ends, span-standing, demand-only, supply-only, demand-bottom, supply-bottom}
 use Rattle.pricing.proofs.Pricing.{Tied, sums-price}
 
 -- the tally once the rungs of ticks ts are joined to it
@@ -78,3 +81,24 @@ pub first-rung : (s : Sides) (reference low q : ℕ) (b a : Survey) → b ≡ su
     → ◌≡◌ {A = Rung} (record { price = low; bid = b.all; ask = a.market + q }) (rung_at (interest_of s reference) low)
 first-rung s reference low q b a e f least k =
     (λ i. record { price = low; bid = (e i).all; ask = (f i).market + k i }) ∙ (λ i. record { price = low; bid = sym (demand-bottom s low least) i; ask = sym (supply-bottom s low least) i })
+
+-- where the climb begins and ends, and the ladder that it goes up
+pub record Start (ticks : List ℕ) (s : Sides) (reference low high : ℕ) (first : Rung) : Type 0 where
+  pub end : Tick ticks high
+  pub here : first ≡ rung_at (interest_of s reference) low
+  pub rungs : ladder ticks s reference ≡ low ∷ filter (between (low + 1) high) ticks
+
+pub starts : (ticks : List ℕ) (floor ceiling : ℕ) (s : Sides) (reference : ℕ) (b a : Survey) (span : Option Span) (sp : Span) (under over : Option ℕ) (low high q : ℕ)
+    → Lawful ticks floor ceiling → AllByRecursion (Tick ticks) (limits (standing s)) → b ≡ surveyed s.buys → a ≡ surveyed s.offers → span ≡ joined_spans b.limits a.limits → span ≡ Some sp
+    → under ≡ last_below ticks sp.low → low ≡ unwrap_or under sp.low → over ≡ first_above ticks sp.high → high ≡ unwrap_or over sp.high → q ≡ quantity_at low s.offers
+    → Start ticks s reference low high (record { price = low; bid = b.all; ask = a.market + q })
+starts ticks floor ceiling s reference b a span sp under over low high q l on e f joins is below low_is above high_is k =
+    let low_at : low ≡ bottom ticks sp.low = low_is ∙ ap (λ o. unwrap_or o sp.low) below in
+    let high_at : high ≡ top ticks sp.high = high_is ∙ ap (λ o. unwrap_or o sp.high) above in
+    let end = ends ticks floor ceiling (limits (standing s)) sp l on (sym (surveys-span s b a e f) ∙ sym joins ∙ is) in
+    let least = subst (λ x. AllByRecursion (λ q. x ≤ q) (limits (standing s))) (sym low_at) end.least in
+    record {
+      end = subst (Tick ticks) (sym high_at) end.top;
+      here = first-rung s reference low q b a e f least k;
+      rungs = end.climb reference ∙ (λ i. sym low_at i ∷ filter (between (sym low_at i + 1) (sym high_at i)) ticks);
+    }
