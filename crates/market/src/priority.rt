@@ -34,13 +34,16 @@ impl Side {
     pub fn leads(&self, first: &Priority, second: &Priority) -> bool
         ensures { result ≡ leads self.now first.now second.now }
     {
-        first
-            .kind
-            .cmp(&second.kind)
-            .then(self.compare_prices(first.price, second.price))
-            .then(first.rank.cmp(&second.rank))
-            .then(first.number.cmp(&second.number))
-            .is_lt()
+        if first.kind != second.kind {
+            return first.kind < second.kind;
+        }
+        if first.price != second.price {
+            return self.compare_prices(first.price, second.price).is_lt();
+        }
+        if first.rank != second.rank {
+            return first.rank < second.rank;
+        }
+        first.number < second.number
     }
 
     // The better price is the less.

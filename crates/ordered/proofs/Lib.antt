@@ -3,3 +3,4 @@ pub mod Sorts
 pub mod Commutes
 pub mod Edits
 pub mod Searches
+pub mod Indexes

@@ -1,14 +1,16 @@
 // A list over lent rows.
-ghost use Rattle.std.specs.Prelude.{◌≡◌, ◌<◌, ◌≤◌, Bool, true, [], ◌∷◌, ◌++◌, length, take, slice_index_or, slice_set, find, position, insert, remove};
+ghost use Rattle.std.specs.Prelude.{◌≡◌, ◌+◌, ◌<◌, ◌≤◌, Bool, true, [], ◌∷◌, ◌++◌, length, take, slice_index_or, slice_set, find, position, insert, remove};
 ghost use Rattle.std.specs.Fn.{ComputesKey};
+
+use crate::rows::{find, position, remove_row};
 
 /// Entries in lent rows: the first `len` rows hold them, and the rows past those are spare. Every row
 /// that is spare after a change is as it was before. The rows are lent because the engine takes no
 /// memory of its own.
 #[derive(Drop)]
 pub struct LentList<'a, E> {
-    rows: &'a mut [E],
-    len: usize,
+    pub rows: &'a mut [E],
+    pub len: usize,
     ghost fits: { len ≤ length rows.now },
 }
 
@@ -21,6 +23,7 @@ impl<'a, E: Copy> LentList<'a, E> {
         requires { len ≤ length rows.old }
         ensures entries { entries result ≡ take len rows.old }
         ensures rows { result.rows.now ≡ rows.old }
+        ensures reference { result.rows.ghost_name ≡ rows.entry.ghost_name }
     {
         LentList { rows, len }
     }
@@ -44,7 +47,7 @@ impl<'a, E: Copy> LentList<'a, E> {
         requires { F.IsAlwaysCallable test }
         ensures { (passes : E → Bool) → ComputesKey F.FnMut passes test → result ≡ position passes (entries self.now) }
     {
-        self.as_slice().iter().position(test)
+        position(self.rows, self.len, test)
     }
 
     /// The first entry that passes the test.
@@ -52,7 +55,7 @@ impl<'a, E: Copy> LentList<'a, E> {
         requires { F.IsAlwaysCallable test }
         ensures { (passes : E → Bool) → ComputesKey F.FnMut passes test → result ≡ find passes (entries self.now) }
     {
-        self.as_slice().iter().copied().find(test)
+        find(self.rows, self.len, test)
     }
 
     /// The first entry.
@@ -100,10 +103,11 @@ impl<'a, E: Copy> LentList<'a, E> {
         requires { at < length (entries self.old) }
         ensures value { (d : E) → result ≡ slice_index_or (entries self.old) at d }
         ensures entries { entries self.new ≡ remove (entries self.old) at }
+        ensures sorted { (order : E → E → Bool) → Sorted order (entries self.old) → Sorted order (entries self.new) }
+        ensures fewer { length (entries self.new) + 1 ≡ length (entries self.old) }
         ensures rows { RowsKept self.old self.new }
     {
-        let entry = self.rows[at];
-        self.rows.copy_within(at + 1..self.len, at);
+        let entry = remove_row(self.rows, at, self.len);
         self.len -= 1;
         entry
     }

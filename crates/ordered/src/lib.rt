@@ -3,6 +3,7 @@
 mod lent;
 mod list;
 mod ranking;
+pub mod rows;
 
 pub use lent::LentList;
 pub use list::OrderedList;

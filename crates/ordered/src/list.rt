@@ -11,8 +11,8 @@ use crate::ranking::Ranking;
 /// Entries in lent rows in the order of a ranking: none is ahead of one before it.
 #[derive(Drop)]
 pub struct OrderedList<'a, E, R: Ranking<E>> {
-    list: LentList<'a, E>,
-    ranking: R,
+    pub list: LentList<'a, E>,
+    pub ranking: R,
     ghost ordered: { in_order (ranked (R.Ranking.ahead ranking) (R.Ranking.key_of ranking)) (entries list) ≡ true },
 }
 

@@ -23,3 +23,26 @@ pub trait Ranking<E> {
 
     ghost total: { (s : Self) (j k : Self.Key) → ahead s j k ≡ false → ahead s k j ≡ false → j ≡ k };
 }
+
+// A ranking that is lent ranks the same.
+impl<E, R: Ranking<E>> Ranking<E> for &R {
+    type Key = R::Key;
+
+    ghost key_of = { λ r. R.Ranking.key_of r.now };
+
+    ghost ahead = { λ r. R.Ranking.ahead r.now };
+
+    fn key(&self, entry: &E) -> R::Key {
+        (**self).key(entry)
+    }
+
+    fn before(&self, first: &R::Key, second: &R::Key) -> bool {
+        (**self).before(first, second)
+    }
+
+    ghost irreflexive = { λ r. R.Ranking.irreflexive r.now };
+
+    ghost transitive = { λ r. R.Ranking.transitive r.now };
+
+    ghost total = { λ r. R.Ranking.total r.now };
+}

@@ -194,8 +194,16 @@ put-lawful n o s l b f = add_lawful n o (take_from o.number s) b (taken_free o.n
 -- ---- the test of a put
 
 -- at n orders, it depends on whether one of that number was found
-pub over-full : (n k : ℕ) (xs : List Order) (found : Bool) → n ≤ length xs → found ≡ list_any (numbered k) xs → not found ≡ over n k xs
-over-full n k xs found le e = ap not e ∙ sym (ap (λ t. t && not (list_any (numbered k) xs)) (le-leb n (length xs) le))
+pub over-found : (n k : ℕ) (xs : List Order) (found : Bool) → n ≤ length xs → found ≡ list_any (numbered k) xs → not found ≡ over n k xs
+over-found n k xs found le e = ap not e ∙ sym (ap (λ t. t && not (list_any (numbered k) xs)) (le-leb n (length xs) le))
+
+-- the same by an answer that says whether none was found
+pub over-full : (n k : ℕ) (xs : List Order) (found b : Bool) → n ≤ length xs → list_any (numbered k) xs ≡ found → found ≡ not b → b ≡ over n k xs
+over-full n k xs found b le e h = sym (ap not h ∙ twice b) ∙ over-found n k xs found le (sym e)
+  where
+    twice : (t : Bool) → not (not t) ≡ t
+    twice true = refl
+    twice false = refl
 
 -- under n orders there is a place
 pub over-less : (n k m : ℕ) (xs : List Order) → m ≡ length xs → m < n → leb n m ≡ over n k xs

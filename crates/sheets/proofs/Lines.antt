@@ -160,6 +160,10 @@ length-arranged xs =
     let c = length-filter_both (on Buy) (on Offer) (λ (x : Order). other-side x.side) xs in
     omega arith
 
+-- how many there are
+pub count_arranged : (xs : List Order) → length xs ≡ length (arranged xs).buys + length (arranged xs).offers
+count_arranged xs = sym (length-arranged xs)
+
 -- ---- a number sought
 
 some-insert : {X : Type 0} (test : X → Bool) (ahead : X → X → Bool) (x : X) (xs : List X) → list_any test (insert_by ahead x xs) ≡ (test x || list_any test xs)

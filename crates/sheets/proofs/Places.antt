@@ -1,12 +1,12 @@
 -- What is written or taken out at the index of the first order that passes a test.
-use Rattle.std.proofs.Common.{◌≡◌, ℕ, zero, suc, ◌<◌, Bool, true, false, cond, List, [], ◌∷◌, ◌++◌, length, get_or, set, Some, None, sym, refl, ap, ◌∙◌, ⊎_elim, nat_lt, arith}
-use Rattle.std.specs.List.{find, list_any, position, position_or_len, remove, slice_get}
+use Rattle.std.proofs.Common.{◌≡◌, ℕ, zero, suc, ◌<◌, Bool, true, false, cond, List, [], ◌∷◌, ◌++◌, length, get_or, set, Some, sym, refl, ap, ⊎_elim, arith}
+use Rattle.std.specs.List.{find, list_any, position, remove, slice_get}
 use Rattle.std.specs.Option.{option_and_then}
-use Rattle.std.proofs.lemmas.Bool.{ltb-false, cond-true, cond-false, cases_Bool, both_ways}
-use Rattle.std.proofs.lemmas.List.Folds.{find_at}
+use Rattle.std.proofs.lemmas.Bool.{cases_Bool, both_ways}
 use Rattle.std.proofs.lemmas.List.Quantifiers.{position-Some}
-use Rattle.std.proofs.lemmas.Option.{slice_get_past, none-some}
+use Rattle.std.proofs.lemmas.Option.{none-some}
 use Rattle.market.specs.declared.order.Order.{Order}
+use Rattle.ordered.proofs.Indexes.{find-position as first-stands}
 use Rattle.sheets.specs.Rows.{put_of}
 
 -- without the first that passes
@@ -34,14 +34,7 @@ module _ {X : Type 0} (test : X → Bool) where
 
   -- the first that passes stands at its index
   pub find-position : (xs : List X) → find test xs ≡ option_and_then (slice_get xs) (position test xs)
-  find-position xs =
-      let i = position_or_len test xs in
-      let n = length xs in
-      find_at test xs
-      ∙ ⊎_elim
-      (λ t. sym (ap (option_and_then (slice_get xs)) (cond-true (nat_lt i n) (Some i) None t)))
-      (λ f. slice_get_past xs i (ltb-false i n f) ∙ sym (ap (option_and_then (slice_get xs)) (cond-false (nat_lt i n) (Some i) None f)))
-      (cases_Bool (nat_lt i n))
+  find-position xs = first-stands test xs
 
   pub drop_at : (xs : List X) (i : ℕ) → Found xs i → remove xs i ≡ drop_of test xs
   drop_at [] i f = let w = f.within in absurd (omega arith)

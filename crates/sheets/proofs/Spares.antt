@@ -9,7 +9,7 @@ use Rattle.sheets.specs.Rows.{Row, marked, SpareRowsKept}
 use Rattle.sheets.specs.Held.{rows_of}
 
 -- the rows from n on are as they were, where the first n hold orders afterwards
-rows-kept : (m n : ℕ) (xs ys : List Order) → length ys ≡ length xs → drop n ys ≡ drop n xs → SpareRowsKept (marked m xs) (marked n ys)
+pub rows-kept : (m n : ℕ) (xs ys : List Order) → length ys ≡ length xs → drop n ys ≡ drop n xs → SpareRowsKept (marked m xs) (marked n ys)
 rows-kept zero zero [] [] l e = tt
 rows-kept zero (suc n) [] [] l e = tt
 rows-kept (suc m) zero [] [] l e = tt

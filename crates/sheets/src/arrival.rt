@@ -45,7 +45,7 @@ impl<'a> ArrivalSheet<'a> {
     fn index(&self, number: u32) -> Option<usize>
         ensures { result ≡ position (numbered number) (arrivals self.now) }
     {
-        self.orders.position(|order| order.number == number)
+        self.orders.position(move |order| order.number == number)
     }
 
     // Whether the order has no place on its side.
@@ -131,13 +131,14 @@ impl<'a> OrderSheet for ArrivalSheet<'a> {
     }
 
     fn find(&self, number: u32) -> Option<Order> {
-        self.orders.find(|order| order.number == number)
+        self.orders.find(move |order| order.number == number)
     }
 
     fn next(&self, side: Side, behind: Option<Priority>) -> Option<Order> {
         first_in(side, self.orders.as_slice(), behind)
     }
 
+    #[tactic(auto, using(crate::proofs::Lines::count_arranged))]
     fn count(&self) -> usize {
         self.orders.len()
     }

@@ -16,7 +16,7 @@ pub(crate) type SideList<'a> = OrderedList<'a, Order, Side>;
 pub(crate) fn is_over(orders: &[Order], capacity: usize, number: u32) -> bool
     ensures { result ≡ over capacity number orders.now }
 {
-    orders.len() >= capacity && !orders.iter().any(|order| order.number == number)
+    orders.len() >= capacity && !orders.iter().any(move |order| order.number == number)
 }
 
 // The first order of a list, or the first behind a priority.
@@ -33,7 +33,7 @@ pub(crate) fn next_in(list: &SideList, behind: Option<Priority>) -> Option<Order
 fn index(list: &SideList, number: u32) -> Option<usize>
     ensures { result ≡ position (numbered number) (held list.now) }
 {
-    list.position(|order| order.number == number)
+    list.position(move |order| order.number == number)
 }
 
 // Takes the order of that number out of a list.

@@ -141,7 +141,7 @@ impl<'a> OrderSheet for PrioritySheet<'a> {
 
     // As in `remove`, no `or_else`.
     fn find(&self, number: u32) -> Option<Order> {
-        let sought = |order: &Order| order.number == number;
+        let sought = move |order: &Order| order.number == number;
         if let Some(order) = self.buys.find(sought) {
             return Some(order);
         }

@@ -1,6 +1,6 @@
 // Orders of both sides, in any order.
-ghost use Rattle.std.specs.Prelude.{◌≡◌, true, find};
-ghost use Rattle.sheets.specs.Sides.{is_behind, over};
+ghost use Rattle.std.specs.Prelude.{◌≡◌, true, length, filter, find};
+ghost use Rattle.sheets.specs.Sides.{is_behind, on, over};
 ghost use Rattle.sheets.specs.Rows.{line};
 ghost use Rattle.sheets.specs.Tests.{is_apart};
 ghost use Rattle.sheets.specs.Scans.{first_with};
@@ -41,12 +41,25 @@ pub(crate) fn first_in(side: Side, orders: &[Order], behind: Option<Priority>) -
     orders.iter().rev().fold(None, |first, order| first_with(side, behind, first, order))
 }
 
+// How many orders are of a side. By a loop: `filter` and `count` take three times as long.
+fn count_on(side: Side, orders: &[Order]) -> usize
+    ensures { result ≡ length (filter (on side) orders.now) }
+{
+    let mut count = 0;
+    for order in orders {
+        if order.side == side {
+            count += 1;
+        }
+    }
+    count
+}
+
 // Whether a side has `capacity` orders and none of that number.
 pub(crate) fn is_side_over(side: Side, orders: &[Order], capacity: usize, number: u32) -> bool
     ensures { result ≡ over capacity number (line side orders.now) }
 {
-    orders.iter().filter(|order| order.side == side).count() >= capacity
+    count_on(side, orders) >= capacity
         && !orders
             .iter()
-            .any(|order| order.side == side && order.number == number)
+            .any(move |order| order.side == side && order.number == number)
 }

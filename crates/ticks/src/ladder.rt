@@ -39,15 +39,18 @@ impl Table<'_> {
         requires { is_ok (load_check self.now.rows.now self.now.end) ≡ true }
         ensures { Placed (ladder self.now.rows.now self.now.end) (start_of self.now.rows.now self.now.end) self.now.end p result }
     {
+        // no row has to be found from the end on
+        if p >= self.end {
+            return Place::Past {
+                last: self.end,
+                price: p,
+            };
+        }
         match self.row_at(p) {
             None => Place::Before {
                 first: self.start(),
             },
-            Some(row) if p < self.end => Place::Within(InRow { row, price: p }),
-            Some(_) => Place::Past {
-                last: self.end,
-                price: p,
-            },
+            Some(row) => Place::Within(InRow { row, price: p }),
         }
     }
 }

@@ -9,13 +9,13 @@ returns-in-None c =
 
 pub invariant_of-result : goal.invariant_of-result
 invariant_of-result c =
-    let at = answers-within c.args.self.now.rows.now c.args.self.now.end c.requires c.args.p c.in-Some.row (sym c.row_at.ensures ∙ c.in-Some.is) c.if-p-self.true in
+    let at = answers-within c.args.self.now.rows.now c.args.self.now.end c.requires c.args.p c.in-Some.row (sym c.row_at.ensures ∙ c.in-Some.is) c.if-p-self.false in
     let high = (found c.args.self.now.rows.now c.args.self.now.end c.requires).high in
     record { positive = at.pos; from_start = at.low; room = omega (arith, at.up, high) }
 
 pub returns-in-Some : goal.returns-in-Some
 returns-in-Some c =
-    placed-within c.args.self.now.rows.now c.args.self.now.end c.requires c.args.p _ (sym c.row_at.ensures ∙ c.in-Some.is) refl c.if-p-self.true
+    placed-within c.args.self.now.rows.now c.args.self.now.end c.requires c.args.p _ (sym c.row_at.ensures ∙ c.in-Some.is) refl c.if-p-self.false
 
-pub returns-in-Some-2 : goal.returns-in-Some-2
-returns-in-Some-2 c = placed_past c.args.self.now.rows.now c.args.self.now.end c.requires c.args.p c.if-p-self.false
+pub returns-then-p-self : goal.returns-then-p-self
+returns-then-p-self c = placed_past c.args.self.now.rows.now c.args.self.now.end c.requires c.args.p c.if-p-self.true
